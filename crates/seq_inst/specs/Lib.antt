@@ -1,0 +1,4 @@
+pub mod Members
+pub mod Valid
+pub mod Instances
+pub mod Trees

@@ -1,0 +1,15 @@
+pub mod Problem
+pub mod Tree
+pub mod Huffman
+pub mod HuffmanLaw
+pub mod Bound
+pub mod Greedy
+pub mod Graph
+pub mod Rows
+pub mod Examples
+pub mod Claims
+pub mod Laws
+pub mod States
+pub mod Gathered
+pub mod PassageLaws
+pub mod Numbering

@@ -1,0 +1,47 @@
+//! The laws of costs, bounds, entered groups, events and certificates. Each holds for every problem,
+//! also where several classes share a goal and so need not be told apart.
+ghost use Rattle.seq_theory.specs.HuffmanLaw.{HuffmanIsLeast, HuffmanIsReached};
+ghost use Rattle.seq_theory.specs.Laws.{HasLeast, BoundsHold, EnteredHolds, RunsHold, CertificateHolds, WalksHold, LowsAreClaims, ClosesHold, ViewsHold};
+
+/// Huffman's cost of a list of weights is the least weighted path length of a binary tree with one
+/// leaf for each weight.
+pub fn huffman_is_least()
+    ensures least { HuffmanIsLeast }
+    ensures reached { HuffmanIsReached }
+{}
+
+/// Each group of a problem whose classes are told apart has a least cost.
+pub fn has_least()
+    ensures { HasLeast }
+{}
+
+/// The bound, the one-step bound, the least cost and greedy's cost stand in this order.
+pub fn bounds_hold()
+    ensures { BoundsHold }
+{}
+
+/// Whatever was entered, low is at most the least cost, and the strategy costs the value.
+pub fn entered_holds()
+    ensures { EnteredHolds }
+{}
+
+/// Whatever allowed events were played, the rows are sound; and what true rows of some groups allow
+/// is true of all.
+pub fn runs_hold()
+    ensures runs { RunsHold }
+    ensures views { ViewsHold }
+{}
+
+/// Where a certificate's claims hold against each other, none is above its group's least cost; and
+/// the lows of the entered groups hold against each other.
+pub fn certificate_holds()
+    ensures sound { CertificateHolds }
+    ensures complete { LowsAreClaims }
+{}
+
+/// A search that takes the test of least sum enters wanted groups alone, and closes a group whose
+/// parts by that test are closed.
+pub fn walks_hold()
+    ensures wanted { WalksHold }
+    ensures closes { ClosesHold }
+{}

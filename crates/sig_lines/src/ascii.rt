@@ -1,0 +1,18 @@
+//! A text made of bytes that are known to be ASCII.
+ghost use Rattle.std.specs.Str.{IsAscii};
+ghost use Rattle.std.specs.Prelude.{◌≡◌, IfOk};
+
+use sig_types::Text;
+use std::alloc::{AllocError, Global};
+use std::str;
+
+/// A text of these bytes.
+pub fn ascii_text(alloc: Global, bytes: &[u8]) -> Result<Text, AllocError>
+    requires { IsAscii bytes.now }
+    ensures { IfOk result (λ t. t ≡ bytes.now) }
+{
+    match str::from_utf8(bytes) {
+        Ok(text) => Text::of(alloc, text),
+        Err(_) => unreachable!(),
+    }
+}

@@ -1,0 +1,82 @@
+-- Which test detects which fault, the states, and their rows.
+use Rattle.std.specs.Prelude.{◌≡◌, ℕ, ◌+◌, ◌-◌, ◌/◌, ◌%◌, ◌<◌, ◌≤◌, ◌↔◌, nat_eq, nat_lt, not, ◌&&◌, Bool, true, false, cond, List, [], filter, length, slice_index, slice_index_or, Option, Some, None}
+use Rattle.std.specs.Bool.{MatchBool}
+use Rattle.std.specs.List.{AllZip}
+use Rattle.sig_types.specs.Sets.{has_bit}
+use Rattle.sig_flat.specs.declared.flat.Flat.{Flat}
+use Rattle.sig_flat.specs.declared.flat.Fault.{Fault}
+use Rattle.sig_flat.specs.declared.flat.FlatTest.{FlatTest}
+use Rattle.sig_reach.specs.Paths.{HasSignalPath, HasFreePath}
+use Rattle.sig_matrix.specs.declared.matrix.Matrix.{Matrix}
+use Rattle.sig_matrix.specs.declared.matrix.FaultRow.{FaultRow}
+use Rattle.sig_lines.specs.declared.labels.TestLabel.{TestLabel}
+use Rattle.seq_theory.specs.States.{System}
+
+-- some signal of the fault and of the test has a path from the fault to the test, in the test's mode
+abbrev pub SeesSignal : Flat → Fault → FlatTest → Type 0
+SeesSignal flat fault test = (signal : ℕ) × (has_bit fault.signals.0 signal ≡ true) × (has_bit test.signals.0 signal ≡ true) × HasSignalPath flat test.mode signal fault.node test.node
+
+-- a general fault is detected along free paths, a functional one by its signals
+abbrev pub Detects : Flat → Fault → FlatTest → Type 0
+Detects flat fault test = MatchBool fault.general (HasFreePath flat test.mode fault.node test.node) (SeesSignal flat fault test)
+
+-- all tests, or those of one mode
+abbrev pub taken : Option ℕ → List FlatTest → List FlatTest
+taken None tests = tests
+taken (Some mode) tests = filter (λ (t : FlatTest). nat_eq t.mode mode) tests
+
+abbrev pub no_row : FaultRow
+no_row = record { weight = 0; label = []; row = [] }
+
+-- whether the matrix has the fault detected by the test
+abbrev pub detects : Matrix → ℕ → ℕ → Bool
+detects matrix fault test = has_bit (slice_index (slice_index_or matrix.faults fault no_row).row (test / 64)) (test % 64)
+
+abbrev pub no_fault : Fault
+no_fault = record { node = 0; general = false; signals = record { 0 = 0 }; weight = 0; label = [] }
+
+abbrev pub no_test : FlatTest
+no_test = record { node = 0; cost = 0; signals = record { 0 = 0 }; mode = 0; label = [] }
+
+pub record IsRowOf (fault : Fault) (row : FaultRow) : Type 0 where
+  pub weight : row.weight ≡ fault.weight
+  pub label : row.label ≡ fault.label
+
+pub record IsLabelOf (test : FlatTest) (column : TestLabel) : Type 0 where
+  pub cost : column.cost ≡ test.cost
+  pub label : column.label ≡ test.label
+
+-- the matrix of a flat model, with all its tests or those of one mode
+pub record IsMatrixOf (flat : Flat) (mode : Option ℕ) (matrix : Matrix) : Type 0 where
+  pub good : matrix.good ≡ flat.good
+  pub faults : AllZip IsRowOf flat.faults matrix.faults
+  pub tests : AllZip IsLabelOf (taken mode flat.tests) matrix.tests
+  pub detected : (f t : ℕ) → f < length flat.faults → t < length matrix.tests → (detects matrix f t ≡ true) ↔ Detects flat (slice_index_or flat.faults f no_fault) (slice_index_or (taken mode flat.tests) t no_test)
+  pub nothing_else : (f t : ℕ) → f < length flat.faults → length matrix.tests ≤ t → t < 256 → detects matrix f t ≡ false
+
+-- how many states come before the faults: one, without a fault, where it has a weight
+abbrev pub before_faults : Matrix → ℕ
+before_faults matrix = cond (nat_eq matrix.good 0) 0 1
+
+abbrev pub state_count : Matrix → ℕ
+state_count matrix = before_faults matrix + length matrix.faults
+
+-- whether the test fails in the state: never without a fault
+abbrev pub fails : Matrix → ℕ → ℕ → Bool
+fails matrix s t = not (nat_lt s (before_faults matrix)) && detects matrix (s - before_faults matrix) t
+
+abbrev pub state_weight : Matrix → ℕ → ℕ
+state_weight matrix s = cond (nat_lt s (before_faults matrix)) matrix.good (slice_index_or matrix.faults (s - before_faults matrix) no_row).weight
+
+abbrev pub no_label : TestLabel
+no_label = record { cost = 0; label = [] }
+
+-- the system under test
+abbrev pub system_of : Matrix → System
+system_of matrix = record {
+  states = state_count matrix;
+  tests = length matrix.tests;
+  weight = state_weight matrix;
+  cost = λ t. (slice_index_or matrix.tests t no_label).cost;
+  fails = fails matrix;
+}

@@ -1,0 +1,6 @@
+//! Faults by tests.
+#![tactic(auto)]
+
+mod matrix;
+
+pub use matrix::{FaultRow, Matrix};
