@@ -1,0 +1,3 @@
+pub mod RefusalText
+pub mod Statuses
+pub mod Plans
