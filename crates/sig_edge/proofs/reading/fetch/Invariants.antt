@@ -1,0 +1,14 @@
+use Rattle.std.proofs.Common.{◌≡◌, ◌≤◌, ◌+◌, ◌-◌, vec_len}
+use Rattle.sig_edge.specs.Shelf.{HoldsFront}
+use Rattle.sig_edge.proofs.reading.fetch.Given as goal
+
+-- what was read so far is the front of what is held
+abbrev pub invariant-loop-buffer : goal.invariant-loop-buffer
+invariant-loop-buffer g l =
+    HoldsFront (g.D.Shelf.holds l.shelf) l.name l.content.items
+    × (g.D.Shelf.holds l.shelf ≡ g.D.Shelf.holds l.initial.shelf)
+    × (g.D.Shelf.faults l.initial.shelf ≤ g.D.Shelf.faults l.shelf)
+    × (g.D.Shelf.misses l.initial.shelf ≤ g.D.Shelf.misses l.shelf)
+
+abbrev pub decreases-loop-buffer : goal.decreases-loop-buffer
+decreases-loop-buffer g l = l.limit + 1 - vec_len l.content

@@ -1,0 +1,67 @@
+-- What a shelf in memory holds, and what its calls change.
+use Rattle.std.specs.Prelude.{◌≡◌, ◌≢◌, ℕ, List, [], ◌∷◌, Option, Some, None, Contains, string_bytes, if◌then◌else◌}
+use Rattle.std.specs.Str.{bytes_eq}
+use Rattle.sig_edge.specs.Causes.{one_more}
+use Rattle.sig_edge.specs.declared.memory_shelf.File.{File}
+use Rattle.sig_edge.specs.declared.memory_shelf.MemShelf.{MemShelf}
+
+-- the bytes of the first file with the name
+abbrev pub found : List File → List ℕ → Option (List ℕ)
+found [] name = None
+found (f ∷ files) name = if bytes_eq (string_bytes f.name) name then Some f.bytes.items else found files name
+
+-- the bytes that are held under a name, of a shelf in memory
+abbrev pub content_of : MemShelf → List ℕ → Option (List ℕ)
+content_of shelf name = found shelf.files.items name
+
+-- how many of its calls failed
+abbrev pub shelf_faults : MemShelf → ℕ
+shelf_faults shelf = shelf.faults
+
+-- how many of its calls asked for a name that isn't held
+abbrev pub shelf_misses : MemShelf → ℕ
+shelf_misses shelf = shelf.misses
+
+-- how many times it was read, faults among them
+abbrev pub shelf_calls : MemShelf → ℕ
+shelf_calls shelf = shelf.calls
+
+-- the numbers of the calls, from 1, that are to fail
+abbrev pub shelf_failing : MemShelf → List ℕ
+shelf_failing shelf = shelf.fail.items
+
+-- the number of its next call is among those that are to fail
+abbrev pub FailsNext : MemShelf → Type 0
+FailsNext shelf = Contains (shelf_failing shelf) (one_more (shelf_calls shelf))
+
+-- the shelf holds nothing, was never read, and is to fail at these calls
+pub record IsNewShelf (shelf : MemShelf) (fail : List ℕ) : Type 0 where
+  pub holds : (name : List ℕ) → content_of shelf name ≡ None
+  pub faults : shelf_faults shelf ≡ 0
+  pub misses : shelf_misses shelf ≡ 0
+  pub calls : shelf_calls shelf ≡ 0
+  pub failing : shelf_failing shelf ≡ fail
+
+-- the counts and the calls that are to fail are as before
+pub record KeepsCounts (old new : MemShelf) : Type 0 where
+  pub faults : shelf_faults new ≡ shelf_faults old
+  pub misses : shelf_misses new ≡ shelf_misses old
+  pub calls : shelf_calls new ≡ shelf_calls old
+  pub failing : shelf_failing new ≡ shelf_failing old
+
+-- the name is held with these bytes, and every other name as before
+pub record AddsFile (old new : MemShelf) (name bytes : List ℕ) : Type 0 where
+  pub added : content_of new name ≡ Some bytes
+  pub others : (other : List ℕ) → other ≢ name → content_of new other ≡ content_of old other
+
+-- a call was counted, and nothing else has changed
+abbrev pub read_once : MemShelf → MemShelf
+read_once shelf = record shelf { calls = one_more shelf.calls }
+
+-- a call and a fault were counted, and nothing else has changed
+abbrev pub failed_once : MemShelf → MemShelf
+failed_once shelf = record shelf { calls = one_more shelf.calls; faults = one_more shelf.faults }
+
+-- a call and a miss were counted, and nothing else has changed
+abbrev pub missed_once : MemShelf → MemShelf
+missed_once shelf = record shelf { calls = one_more shelf.calls; misses = one_more shelf.misses }

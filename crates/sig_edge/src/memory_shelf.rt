@@ -1,0 +1,116 @@
+//! A shelf in memory, for tests and for laws about whole runs: it tells its files, and fails at just the calls that it was told
+//! to fail at. The newest file stands first, so that a look-up finds a file that was added in place of an older one.
+
+ghost use Rattle.std.specs.Prelude.{◌≡◌, ◌↔◌, ◌≤◌, ◌+◌, ◌<◌, ℕ, List, Some, option_map, length, IsOk, IfOk, OnOk, OnErr, IsErrOf};
+ghost use Rattle.sig_edge.specs.Shelf.{IsPart, ReadsAt, HasShelfCause};
+ghost use Rattle.sig_edge.specs.MemShelf.{found, content_of, shelf_faults, shelf_misses, FailsNext, IsNewShelf, KeepsCounts, AddsFile, read_once, failed_once, missed_once};
+
+use crate::shelf::{Shelf, ShelfFault};
+use std::alloc::{AllocError, Global};
+
+/// A file in memory.
+#[derive(Debug, Drop)]
+pub struct File {
+    name: String,
+    bytes: Vec<u8>,
+}
+
+/// Files in memory. A read whose number, from 1, is in `fail` answers a fault.
+#[derive(Debug, Drop)]
+pub struct MemShelf {
+    files: Vec<File>,
+    fail: Vec<u64>,
+    calls: u64,
+    faults: u64,
+    misses: u64,
+}
+
+/// The bytes of the first file with the name.
+fn find<'a>(files: &'a [File], name: &str) -> Option<&'a [u8]>
+    ensures { option_map (λ bytes. bytes.now) result ≡ found files.now name.now }
+{
+    for file in files {
+        if file.name.as_str() == name {
+            return Some(file.bytes.as_slice());
+        }
+    }
+    None
+}
+
+/// Copies the file's bytes from `at` on, as many as there are and fit.
+fn copy_part(bytes: &[u8], at: u64, into: &mut [u8]) -> usize
+    ensures part { IsPart bytes.now at into.new result }
+    ensures bound { result ≤ length into.new }
+{
+    if at >= bytes.len() as u64 {
+        return 0;
+    }
+    let rest = &bytes[at as usize..];
+    let n = rest.len().min(into.len());
+    into[..n].copy_from_slice(&rest[..n]);
+    n
+}
+
+impl MemShelf {
+    /// A shelf that holds nothing. It takes no memory. `fail` has the numbers of the reads, from 1, that are to fail.
+    pub fn new(alloc: Global, fail: Vec<u64>) -> MemShelf
+        ensures { IsNewShelf result fail.items }
+    {
+        MemShelf {
+            files: Vec::new(alloc),
+            fail,
+            calls: 0,
+            faults: 0,
+            misses: 0,
+        }
+    }
+
+    /// Holds the name with these bytes, in place of what it had. Without memory it holds what it held.
+    pub fn add(&mut self, name: &str, bytes: &[u8]) -> Result<(), AllocError>
+        ensures ok { OnOk result (AddsFile self.old self.new name.now bytes.now) }
+        ensures err { OnErr result ((name : List ℕ) → content_of self.new name ≡ content_of self.old name) }
+        ensures counts { KeepsCounts self.old self.new }
+    {
+        let alloc = *self.files.allocator();
+        let file = File {
+            name: String::from_str(alloc, name)?,
+            bytes: Vec::from_slice(alloc, bytes)?,
+        };
+        self.files.insert(0, file)?;
+        Ok(())
+    }
+}
+
+impl Shelf for MemShelf {
+    ghost holds = { λ shelf. Some (content_of shelf) };
+
+    ghost faults = { λ shelf. shelf_faults shelf };
+
+    ghost misses = { λ shelf. shelf_misses shelf };
+
+    fn read_at(&mut self, name: &str, at: u64, into: &mut [u8]) -> Result<usize, ShelfFault>
+        ensures bound { IfOk result (λ n. n ≤ length into.new) }
+        ensures bytes { ReadsAt (Some (content_of self.old)) name.now at into.new result }
+        ensures same { Some (content_of self.new) ≡ Some (content_of self.old) }
+        ensures cause { HasShelfCause (shelf_faults self.old) (shelf_faults self.new) (shelf_misses self.old) (shelf_misses self.new) result }
+
+        // It fails at just the calls that are to fail, and then changes nothing but the counts.
+        ensures fails { (result ≡ Err ShelfFault.Failed) ↔ FailsNext self.old }
+        ensures failed { IsErrOf result ShelfFault.Failed → (self.new ≡ failed_once self.old) × (into.new ≡ into.old) }
+        ensures missed { IsErrOf result ShelfFault.Missing → (self.new ≡ missed_once self.old) × (into.new ≡ into.old) }
+        ensures read { IsOk result → self.new ≡ read_once self.old }
+    {
+        self.calls = self.calls.saturating_add(1);
+        if self.fail.contains(&self.calls) {
+            self.faults = self.faults.saturating_add(1);
+            return Err(ShelfFault::Failed);
+        }
+        match find(self.files.as_slice(), name) {
+            Some(bytes) => Ok(copy_part(bytes, at, into)),
+            None => {
+                self.misses = self.misses.saturating_add(1);
+                Err(ShelfFault::Missing)
+            }
+        }
+    }
+}

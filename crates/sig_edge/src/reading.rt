@@ -1,0 +1,75 @@
+ghost use Rattle.std.specs.Prelude.{◌≡◌, ◌≢◌, ◌++◌, take, ◌<◌, ◌≤◌, ◌+◌, ◌^◌, length, vec_len, IfOk, OnErr, IsErrOf};
+ghost use Rattle.sig_edge.specs.Causes.{Rose};
+ghost use Rattle.sig_edge.specs.Shelf.{ReadsAt, HoldsWhole, HoldsNone, HoldsLonger};
+
+use crate::shelf::{Shelf, ShelfFault};
+use std::alloc::Global;
+use thiserror::Error;
+
+#[derive(Debug, Drop, Error)]
+pub enum FetchFault {
+    #[error("no such file")]
+    Missing,
+    #[error("read fault")]
+    Failed,
+    #[error("file too long")]
+    TooLong,
+    #[error("no memory")]
+    OutOfMemory,
+}
+
+/// The whole content of a file of at most `limit` bytes.
+pub fn fetch<D: Shelf>(
+    alloc: Global,
+    shelf: &mut D,
+    name: &str,
+    limit: u64,
+) -> Result<Vec<u8>, FetchFault>
+    requires { limit ≤ 16777216 }
+    ensures short { IfOk result (λ content. vec_len content ≤ limit) }
+    ensures whole { IfOk result (λ content. HoldsWhole (D.holds shelf.old) name.now content.items) }
+    ensures missing { IsErrOf result FetchFault.Missing → Rose (D.misses shelf.old) (D.misses shelf.new) × HoldsNone (D.holds shelf.old) name.now }
+    ensures failed { IsErrOf result FetchFault.Failed → Rose (D.faults shelf.old) (D.faults shelf.new) }
+    ensures too_long { IsErrOf result FetchFault.TooLong → HoldsLonger (D.holds shelf.old) name.now limit }
+    ensures same { D.holds shelf.new ≡ D.holds shelf.old }
+    ensures faults_later { D.faults shelf.old ≤ D.faults shelf.new }
+    ensures misses_later { D.misses shelf.old ≤ D.misses shelf.new }
+{
+    let mut content = Vec::new(alloc);
+    let mut buffer = [0u8; 4096];
+    while content.len() as u64 <= limit {
+        let room = (limit + 1 - content.len() as u64).min(4096) as usize;
+        if read_more(shelf, name, &mut buffer[..room], &mut content)? == 0 {
+            return Ok(content);
+        }
+    }
+    Err(FetchFault::TooLong)
+}
+
+/// Reads once from the content's end on, into `piece`, and appends what came.
+fn read_more<D: Shelf>(
+    shelf: &mut D,
+    name: &str,
+    piece: &mut [u8],
+    content: &mut Vec<u8>,
+) -> Result<usize, FetchFault>
+    ensures read { IfOk result (λ n. ReadsAt (D.holds shelf.old) name.now (length content.old.items) piece.new (Ok n)) }
+    ensures appended { IfOk result (λ n. content.new.items ≡ content.old.items ++ take n piece.new) }
+    ensures within { IfOk result (λ n. n ≤ length piece.new) }
+    ensures len { IfOk result (λ n. vec_len content.new ≡ vec_len content.old + n) }
+    ensures missing { IsErrOf result FetchFault.Missing → Rose (D.misses shelf.old) (D.misses shelf.new) × HoldsNone (D.holds shelf.old) name.now }
+    ensures failed { IsErrOf result FetchFault.Failed → Rose (D.faults shelf.old) (D.faults shelf.new) }
+    ensures never_too_long { result ≢ Err FetchFault.TooLong }
+    ensures same { D.holds shelf.new ≡ D.holds shelf.old }
+    ensures faults_later { D.faults shelf.old ≤ D.faults shelf.new }
+    ensures misses_later { D.misses shelf.old ≤ D.misses shelf.new }
+{
+    match shelf.read_at(name, content.len() as u64, piece) {
+        Ok(n) => match content.extend_from_slice(&piece[..n]) {
+            Ok(()) => Ok(n),
+            Err(_) => Err(FetchFault::OutOfMemory),
+        },
+        Err(ShelfFault::Missing) => Err(FetchFault::Missing),
+        Err(ShelfFault::Failed) => Err(FetchFault::Failed),
+    }
+}
