@@ -1,18 +1,24 @@
-//! Lines of words: the texts that are printed, numbers as words, and labels.
+//! Lines of words. Every text that the program prints is lines, each of words with one space between:
+//! `Lines` writes them, and the readers take a text apart again. Numbers stand as decimal words without
+//! leading zeros, groups of classes as one word in hexadecimal, each read exactly as it is written.
+//! `Labels` says what the states and tests are called.
 #![tactic(auto)]
 
 mod ascii;
 mod hex;
 mod hex_reader;
 mod labels;
+mod lines;
+mod line_end;
 mod number;
 mod pieces;
 mod reader;
 
 pub use ascii::ascii_text;
-pub use hex::{hex_of_words, push_hex, push_word};
 pub use hex_reader::{hex_of, words_in_hex};
 pub use labels::{Labels, StateLabel, TestLabel};
-pub use number::{number_between, number_of, push_number};
+pub use line_end::next_line;
+pub use lines::Lines;
+pub use number::{number_between, number_of};
 pub use pieces::{cut, four_words, is_text, one_word, three_words, two_words};
 pub use reader::{LineReader, line_of};
