@@ -3,6 +3,7 @@
 
 mod plan;
 mod refusing;
+mod small_matrix;
 mod status;
 
 pub use plan::{Action, Plan, PlanFault, plan_of};
