@@ -1,0 +1,5 @@
+pub mod Classes
+pub mod Labels
+pub mod Passing
+pub mod Refusals
+pub mod States

@@ -1,0 +1,93 @@
+//! The instance of test sequencing whose classes are the ambiguity groups. A test passes for a class as
+//! for each of its states, since these have equal rows; so only the first state of each class is looked
+//! at.
+ghost use Rattle.std.specs.Prelude.{◌<◌, ◌≤◌, length, IfOk, IfErr, OnOk};
+ghost use Rattle.sig_matrix.specs.Valid.{IsValid};
+ghost use Rattle.sig_matrix.specs.Detection.{system_of};
+ghost use Rattle.seq_inst.specs.Instances.{problem_of};
+ghost use Rattle.seq_theory.specs.States.{IsOfClasses, firsts};
+ghost use Rattle.sig_classes.specs.Classes.{AreClassesOf};
+ghost use Rattle.sig_classes.specs.Refusals.{TellsManyClasses};
+ghost use Rattle.sig_classes.specs.Passing.{ArePassing, AddsClass};
+
+use crate::classes::Classes;
+use crate::states::row_of;
+use seq_inst::{Group, Instance};
+use sig_matrix::Matrix;
+use sig_types::{Code, Counted, ModelFault, Place, Refusal};
+use std::alloc::{AllocError, Global};
+
+/// The instance over the classes: weights by class, costs by test, and by test the classes that don't
+/// fail it. M13 at the classes comes exactly where there are more than 512.
+pub fn instance_of(
+    alloc: Global,
+    matrix: &Matrix,
+    classes: &Classes,
+) -> Result<Instance, ModelFault>
+    requires valid { IsValid matrix.now }
+    requires classes { AreClassesOf (system_of matrix.now) classes.now }
+
+    ensures instance { IfOk result (λ inst. IsOfClasses (system_of matrix.now) (problem_of inst)) }
+    ensures few { OnOk result (length (firsts (system_of matrix.now)) ≤ 512) }
+    ensures many { IfErr result (TellsManyClasses (length (firsts (system_of matrix.now)))) }
+{
+    if classes.weights.len() > 512 {
+        return Err(ModelFault::Refused(Refusal {
+            code: Code::M13,
+            place: Place::Count(Counted::Classes),
+        }));
+    }
+    match lists_of(alloc, matrix, classes) {
+        Ok(inst) => Ok(inst),
+        Err(_) => Err(ModelFault::OutOfMemory),
+    }
+}
+
+/// The instance, where there are few enough classes.
+fn lists_of(alloc: Global, matrix: &Matrix, classes: &Classes) -> Result<Instance, AllocError>
+    requires valid { IsValid matrix.now }
+    requires classes { AreClassesOf (system_of matrix.now) classes.now }
+    requires few { length (firsts (system_of matrix.now)) ≤ 512 }
+    ensures { IfOk result (λ inst. IsOfClasses (system_of matrix.now) (problem_of inst)) }
+{
+    let weights = Vec::from_slice(alloc, classes.weights.as_slice())?;
+    let mut costs = Vec::with_capacity(alloc, matrix.tests.len())?;
+    for test in matrix.tests.as_slice() {
+        costs.push(test.cost)?;
+    }
+    let passes = passes_of(alloc, matrix, classes)?;
+    Ok(Instance::new(weights, costs, passes))
+}
+
+/// By test, the classes that don't fail it.
+fn passes_of(alloc: Global, matrix: &Matrix, classes: &Classes) -> Result<Vec<Group>, AllocError>
+    requires valid { IsValid matrix.now }
+    requires classes { AreClassesOf (system_of matrix.now) classes.now }
+    requires few { length (firsts (system_of matrix.now)) ≤ 512 }
+    ensures { IfOk result (λ passes. ArePassing (system_of matrix.now) passes.items) }
+{
+    let mut passes = vec![in alloc; Group([0; 8]); matrix.tests.len()]?;
+    let mut found = 0;
+    for (state, class) in classes.class_of.iter().enumerate() {
+        if *class == found {
+            add_class(passes.as_mut_slice(), row_of(matrix, state as u32), found);
+            found += 1;
+        }
+    }
+    Ok(passes)
+}
+
+/// Adds the class to each test that its row doesn't fail.
+fn add_class(passes: &mut [Group], row: [u64; 4], class: u32)
+    requires tests { length passes.old ≤ 256 }
+    requires class { class < 512 }
+    ensures { AddsClass row class passes.old passes.new }
+{
+    let word = (class / 64) as usize;
+    let bit = 1u64 << (class % 64);
+    for (test, group) in passes.iter_mut().enumerate() {
+        if (row[test / 64] >> (test % 64)) & 1 == 0 {
+            group.0[word] |= bit;
+        }
+    }
+}

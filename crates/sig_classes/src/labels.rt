@@ -1,0 +1,47 @@
+//! What a report calls states and tests: each state with its weight, its label and its class, each test
+//! with its cost and its label.
+ghost use Rattle.std.specs.Prelude.{◌≡◌, IfOk};
+ghost use Rattle.sig_matrix.specs.Valid.{IsValid};
+ghost use Rattle.sig_matrix.specs.Detection.{system_of};
+ghost use Rattle.sig_classes.specs.Classes.{AreClassesOf};
+ghost use Rattle.sig_classes.specs.Labels.{labels_from};
+
+use crate::classes::Classes;
+use crate::states::{name_of, weight_of_state};
+use sig_lines::{Labels, StateLabel, TestLabel};
+use sig_matrix::Matrix;
+use sig_types::{List, Text};
+use std::alloc::{AllocError, Global};
+
+/// The labels of a matrix, under a mode's name, or `-` where none was named.
+pub fn labels_of(
+    alloc: Global,
+    matrix: &Matrix,
+    classes: &Classes,
+    mode: &str,
+) -> Result<Labels, AllocError>
+    requires valid { IsValid matrix.now }
+    requires classes { AreClassesOf (system_of matrix.now) classes.now }
+    ensures { IfOk result (λ labels. labels ≡ labels_from matrix.now mode.now) }
+{
+    let mut states = List::new(alloc);
+    for (state, class) in classes.class_of.iter().enumerate() {
+        states.push(StateLabel {
+            weight: weight_of_state(matrix, state as u32),
+            label: name_of(alloc, matrix, state as u32)?,
+            class: *class,
+        })?;
+    }
+    let mut tests = List::new(alloc);
+    for test in matrix.tests.as_slice() {
+        tests.push(TestLabel {
+            cost: test.cost,
+            label: Text::of(alloc, test.label.as_str())?,
+        })?;
+    }
+    Ok(Labels {
+        mode: Text::of(alloc, mode)?,
+        states,
+        tests,
+    })
+}
