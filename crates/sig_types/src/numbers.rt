@@ -33,7 +33,8 @@ impl Weight {
     }
 
     pub fn get(&self) -> u32
-        ensures { result ≡ self.now }
+        ensures value { result ≡ self.now }
+        ensures range { (1 ≤ result) × (result ≤ 1000000) }
     {
         self.0
     }
@@ -70,7 +71,8 @@ impl Cost {
     }
 
     pub fn get(&self) -> u32
-        ensures { result ≡ self.now }
+        ensures value { result ≡ self.now }
+        ensures range { (1 ≤ result) × (result ≤ 1000000) }
     {
         self.0
     }
@@ -107,7 +109,8 @@ impl Good {
     }
 
     pub fn get(&self) -> u32
-        ensures { result ≡ self.now }
+        ensures value { result ≡ self.now }
+        ensures range { result ≤ 1000000 }
     {
         self.0
     }

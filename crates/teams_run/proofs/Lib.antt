@@ -1,1 +1,3 @@
 pub mod SmallRowLaws
+pub mod ZipLaws
+pub mod SmallMatrixLaws

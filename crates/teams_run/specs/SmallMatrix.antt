@@ -46,6 +46,10 @@ fault_weight (Some fault) = fault.weight
 abbrev pub is_detected : List Link → Part → PlacedTest → Bool
 is_detected links part placed = is_linked links part.name placed.point && share_name (fault_signals part.functional) placed.test.signals
 
+-- the part has a functional fault
+abbrev pub HasFault : Part → Type 0
+HasFault part = (fault : Functional) × (part.functional ≡ Some fault)
+
 -- a fault has its part's weight, and the part's name before `.f` as its label
 pub record IsFaultOf (part : Part) (row : FaultRow) : Type 0 where
   pub weight : row.weight ≡ fault_weight part.functional
