@@ -1,13 +1,13 @@
-//! A group of classes as 512 bits in eight words, so that parts and counts take eight steps.
-ghost use Rattle.std.specs.Prelude.{◌≡◌, ◌<◌};
+//! A group of classes as 512 bits in eight words, so that what two groups share, what the one lacks
+//! of the other, and how many classes a group has take eight steps each.
+ghost use Rattle.std.specs.Prelude.{◌≡◌, ◌<◌, ◌≤◌, length, filter, not};
+ghost use Rattle.seq_inst.specs.Members.{members, has_class};
 
 /// A set of classes: class c is bit c % 64 of word c / 64.
 #[derive(Clone, Copy, Debug, PartialEq, Eq)]
 pub struct Group(pub [u64; 8]);
 
 impl Group {
-    ghost use Rattle.seq_inst.specs.Members.{has_class};
-
     /// Whether the class is in the group.
     pub fn has(&self, class: u32) -> bool
         requires { class < 512 }
@@ -15,4 +15,39 @@ impl Group {
     {
         (self.0[(class / 64) as usize] >> (class % 64)) & 1 == 1
     }
+}
+
+/// The classes that are in both groups.
+pub(crate) fn common(a: &Group, b: &Group) -> Group
+    ensures { members result ≡ filter (has_class b.now) (members a.now) }
+{
+    let mut words = [0; 8];
+    for i in 0..8 {
+        words[i] = a.0[i] & b.0[i];
+    }
+    Group(words)
+}
+
+/// The classes of the first group that are not in the second.
+pub(crate) fn without(a: &Group, b: &Group) -> Group
+    ensures { members result ≡ filter (λ c. not (has_class b.now c)) (members a.now) }
+{
+    let mut words = [0; 8];
+    for i in 0..8 {
+        words[i] = a.0[i] ^ (a.0[i] & b.0[i]);
+    }
+    Group(words)
+}
+
+/// How many classes the group has.
+pub fn count_of(group: &Group) -> u32
+    ensures { result ≡ length (members group.now) }
+{
+    let mut count = 0;
+    for class in 0..512 {
+        if group.has(class) {
+            count += 1;
+        }
+    }
+    count
 }
