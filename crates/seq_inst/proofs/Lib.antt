@@ -5,4 +5,5 @@ pub mod RootLaws
 pub mod ShapeLaws
 pub mod CostCode
 pub mod WalkCode
+pub mod ValidLaws
 pub mod SolveLaws

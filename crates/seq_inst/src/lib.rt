@@ -12,6 +12,8 @@ mod outcome;
 mod parts;
 mod solve;
 mod strategy;
+#[cfg(test)]
+mod tests;
 mod walks;
 mod weights;
 
