@@ -1,4 +1,5 @@
 pub mod MembersLaws
+pub mod WordLaws
 pub mod SameGroups
 pub mod PartsLaws
 pub mod RootLaws

@@ -23,7 +23,7 @@ filter_two f g h (x ∷ xs) same =
     ]
 
 -- a bit of the word-wise and
-bit-and : (a b i : ℕ) → nat_eq (bit_at (bit_and a b) i) 1 ≡ (nat_eq (bit_at a i) 1 && nat_eq (bit_at b i) 1)
+pub bit-and : (a b i : ℕ) → nat_eq (bit_at (bit_and a b) i) 1 ≡ (nat_eq (bit_at a i) 1 && nat_eq (bit_at b i) 1)
 bit-and a b i =
     let e = bit_at_and a b i in
     let la = bit_at-lt a i in
@@ -37,7 +37,7 @@ bit-and a b i =
     ]
 
 -- a bit of the first number that the second lacks
-bit-lacks : (a b i : ℕ) → nat_eq (bit_at (bit_xor a (bit_and a b)) i) 1 ≡ (nat_eq (bit_at a i) 1 && not (nat_eq (bit_at b i) 1))
+pub bit-lacks : (a b i : ℕ) → nat_eq (bit_at (bit_xor a (bit_and a b)) i) 1 ≡ (nat_eq (bit_at a i) 1 && not (nat_eq (bit_at b i) 1))
 bit-lacks a b i =
     let e = bit_at_xor a (bit_and a b) i in
     let e2 = bit_at_and a b i in

@@ -13,7 +13,7 @@ use Rattle.seq_inst.specs.Instances.{problem_of}
 use Rattle.seq_inst.proofs.MembersLaws.{members_below-in, members_below-out}
 
 -- some number passes exactly where the filter is not empty
-any-length : (f : ℕ → Bool) (xs : List ℕ) → nat_lt 0 (length (filter f xs)) ≡ list_any f xs
+pub any-length : (f : ℕ → Bool) (xs : List ℕ) → nat_lt 0 (length (filter f xs)) ≡ list_any f xs
 any-length f [] = refl
 any-length f (x ∷ xs) = elim (cases_Bool (f x)) [
   | inl y ↦ rw y (lt-ltb 0 (suc (length (filter f xs))) (omega arith))

@@ -15,11 +15,11 @@ pub record AreWords (words : List ℕ) : Type 0 where
   pub eight : length words ≡ 8
   pub each : (k : ℕ) → k < 8 → get_or words k 0 < 2 ^ 64
 
-class-member : (g : Group) (c : ℕ) → c < 512 → has_class g c ≡ true → IsIn c (members g)
+pub class-member : (g : Group) (c : ℕ) → c < 512 → has_class g c ≡ true → IsIn c (members g)
 unfolding members_below
 class-member g c lt e = IsIn-filter (has_class g) c (count_up 0 512) (IsIn-count_up c 0 512 (omega arith) (omega arith)) e
 
-member-class : (g : Group) (c : ℕ) → IsIn c (members g) → has_class g c ≡ true
+pub member-class : (g : Group) (c : ℕ) → IsIn c (members g) → has_class g c ≡ true
 unfolding members_below
 member-class g c i = filter_passes (has_class g) c (count_up 0 512) i
 

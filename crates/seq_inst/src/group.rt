@@ -1,6 +1,7 @@
 //! A group of classes as 512 bits in eight words, so that what two groups share, what the one lacks
 //! of the other, and how many classes a group has take eight steps each.
 ghost use Rattle.std.specs.Prelude.{◌≡◌, ◌<◌, ◌≤◌, length, filter, not};
+ghost use Rattle.std.specs.List.{list_any};
 ghost use Rattle.seq_inst.specs.Members.{members, has_class};
 
 /// A set of classes: class c is bit c % 64 of word c / 64.
@@ -44,10 +45,32 @@ pub fn count_of(group: &Group) -> u32
     ensures { result ≡ length (members group.now) }
 {
     let mut count = 0;
-    for class in 0..512 {
-        if group.has(class) {
-            count += 1;
-        }
+    for i in 0..8 {
+        count += group.0[i].count_ones();
     }
     count
+}
+
+/// Whether some class is in both groups.
+pub(crate) fn shares(a: &Group, b: &Group) -> bool
+    ensures { result ≡ list_any (has_class b.now) (members a.now) }
+{
+    for i in 0..8 {
+        if a.0[i] & b.0[i] != 0 {
+            return true;
+        }
+    }
+    false
+}
+
+/// Whether some class of the first group is not in the second.
+pub(crate) fn lacks(a: &Group, b: &Group) -> bool
+    ensures { result ≡ list_any (λ c. not (has_class b.now c)) (members a.now) }
+{
+    for i in 0..8 {
+        if a.0[i] ^ (a.0[i] & b.0[i]) != 0 {
+            return true;
+        }
+    }
+    false
 }

@@ -7,7 +7,7 @@ ghost use Rattle.seq_inst.specs.Members.{members};
 ghost use Rattle.seq_inst.specs.Instances.{problem_of};
 ghost use Rattle.seq_inst.specs.Answers.{is_pass};
 
-use crate::group::{Group, common, count_of, without};
+use crate::group::{Group, common, count_of, lacks, shares, without};
 use crate::instance::Instance;
 
 /// What a test answers.
@@ -42,14 +42,14 @@ pub fn part(inst: &Instance, group: &Group, test: u32, answer: Answer) -> Group
     }
 }
 
-/// Whether the test passes for some class of the group and fails for some.
+/// Whether the test passes for some class of the group and fails for some. It stops at the first word
+/// that shows each.
 pub fn splits(inst: &Instance, group: &Group, test: u32) -> bool
     requires { test < vec_len inst.now.costs }
     ensures { result ≡ is_split (problem_of inst.now) (members group.now) test }
 {
-    let pass = part(inst, group, test, Answer::Pass);
-    let fail = part(inst, group, test, Answer::Fail);
-    count_of(&pass) > 0 && count_of(&fail) > 0
+    let passes = &inst.passes[test as usize];
+    shares(group, passes) && lacks(group, passes)
 }
 
 /// Whether the group is an end: all its classes have one goal, so nothing is left to tell apart.
