@@ -1,5 +1,6 @@
 pub mod MembersLaws
 pub mod WordLaws
+pub mod FirstLaws
 pub mod SameGroups
 pub mod PartsLaws
 pub mod RootLaws

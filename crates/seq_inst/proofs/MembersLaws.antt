@@ -76,7 +76,7 @@ filter-last f (z ∷ xs) x = elim (cases_Bool (f z)) [
   | inr n ↦ rw n (filter-last f xs x)
 ]
 
-append-nil : (xs : List ℕ) → xs ++ [] ≡ xs
+pub append-nil : (xs : List ℕ) → xs ++ [] ≡ xs
 append-nil [] = refl
 append-nil (x ∷ xs) = ap (λ l. x ∷ l) (append-nil xs)
 

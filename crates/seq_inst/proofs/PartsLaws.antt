@@ -1,6 +1,6 @@
 -- What the calls on groups owe.
 use Rattle.std.proofs.Common.{◌≡◌, ◌≢◌, ℕ, zero, suc, ◌+◌, ◌<◌, ◌≤◌, List, [], ◌∷◌, ◌++◌, length, refl, sym, ap, ◌∙◌, arith, inl, inr}
-use Rattle.std.specs.Prelude.{Bool, true, false, ◌&&◌, filter, nat_le, nat_lt}
+use Rattle.std.specs.Prelude.{Bool, true, false, ◌&&◌, filter, nat_le, nat_lt, Option}
 use Rattle.std.specs.List.{list_any}
 use Rattle.std.proofs.lemmas.Bool.{cases_Bool, ne_eqb, le-leb, lt-leb, lt-ltb}
 use Rattle.seq_theory.specs.Problem.{Problem, count_up, IsIn, IsWithin, fails, pass_part, fail_part, splits, weight_of, is_end, all_classes}
@@ -11,17 +11,8 @@ use Rattle.seq_inst.specs.declared.instance.Instance.{Instance}
 use Rattle.seq_inst.specs.Members.{has_class, members_below, members}
 use Rattle.seq_inst.specs.Instances.{problem_of}
 use Rattle.seq_inst.proofs.MembersLaws.{members_below-in, members_below-out}
-
--- some number passes exactly where the filter is not empty
-pub any-length : (f : ℕ → Bool) (xs : List ℕ) → nat_lt 0 (length (filter f xs)) ≡ list_any f xs
-any-length f [] = refl
-any-length f (x ∷ xs) = elim (cases_Bool (f x)) [
-  | inl y ↦ rw y (lt-ltb 0 (suc (length (filter f xs))) (omega arith))
-  | inr n ↦ rw n (any-length f xs)
-]
-
-pub splits-counts : (p : Problem) (xs : List ℕ) (t : ℕ) → (nat_lt 0 (length (pass_part p t xs)) && nat_lt 0 (length (fail_part p t xs))) ≡ splits p xs t
-splits-counts p xs t = ap (λ b. b && nat_lt 0 (length (fail_part p t xs))) (any-length (p.passes t) xs) ∙ ap (λ b. list_any (p.passes t) xs && b) (any-length (fails p t) xs)
+use Rattle.seq_inst.proofs.FirstLaws.{reached, IsFound, next-members}
+use Rattle.seq_inst.proofs.SameGroups.{class-member}
 
 -- two classes of a group differ
 second_differs : (f : ℕ → Bool) (from n x y : ℕ) (rest : List ℕ) → filter f (count_up from n) ≡ x ∷ y ∷ rest → x ≢ y
@@ -102,3 +93,11 @@ unfolding members_below
 members-within p g le within = filter-upto (has_class g) 0 p.classes 512 le (λ c l1 l2 y.
     let w = within c (IsIn-filter (has_class g) c (count_up 0 512) (IsIn-count_up c 0 512 (omega arith) (omega arith)) y) in
     let bad : ⊥ = omega arith in bad)
+
+-- a class of a group within the classes is one of them
+pub class-within : (p : Problem) (g : Group) (c : ℕ) → IsWithin p (members g) → c < 512 → has_class g c ≡ true → c < p.classes
+class-within p g c within lt has = within c (class-member g c lt has)
+
+-- one class more of a weight
+pub weight-next : (p : Problem) (g : Group) (c : ℕ) (next : Option ℕ) → c < 512 → has_class g c ≡ true → IsFound g (c + 1) next → weight_of p (members_below g (reached next)) ≡ weight_of p (members_below g c) + p.weight c
+weight-next p g c next lt has found = ap (weight_of p) (next-members g c next lt has found ∙ sym (members_below-in g c has)) ∙ weight-members_below-in p g c has

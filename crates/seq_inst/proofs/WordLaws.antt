@@ -71,7 +71,7 @@ members_below-split g m k =
 pub members_below-word : (g : Group) (i : ℕ) → members_below g (64 * (i + 1)) ≡ members_below g (64 * i) ++ filter (has_class g) (count_up (64 * i) 64)
 members_below-word g i = ap (members_below g) (let e : 64 * (i + 1) ≡ 64 * i + 64 = omega arith in e) ∙ members_below-split g (64 * i) 64
 
-place : (g : Group) (i j : ℕ) → j < 64 → has_class g (64 * i + j) ≡ nat_eq (bit_at (get_or g.0 i 0) j) 1
+pub place : (g : Group) (i j : ℕ) → j < 64 → has_class g (64 * i + j) ≡ nat_eq (bit_at (get_or g.0 i 0) j) 1
 place g i j lt =
     let d : (64 * i + j) / 64 ≡ i = omega arith in
     let m : (64 * i + j) % 64 ≡ j = omega arith in

@@ -1,8 +1,8 @@
 //! A group of classes as 512 bits in eight words, so that what two groups share, what the one lacks
 //! of the other, and how many classes a group has take eight steps each.
-ghost use Rattle.std.specs.Prelude.{◌≡◌, ◌<◌, ◌≤◌, length, filter, not};
+ghost use Rattle.std.specs.Prelude.{◌≡◌, ◌<◌, ◌≤◌, length, filter, not, IfSome, IfNone};
 ghost use Rattle.std.specs.List.{list_any};
-ghost use Rattle.seq_inst.specs.Members.{members, has_class};
+ghost use Rattle.seq_inst.specs.Members.{members, has_class, IsFirstFrom, HasNoneFrom};
 
 /// A set of classes: class c is bit c % 64 of word c / 64.
 #[derive(Clone, Copy, Debug, PartialEq, Eq)]
@@ -15,6 +15,28 @@ impl Group {
         ensures { result ≡ has_class self.now class }
     {
         (self.0[(class / 64) as usize] >> (class % 64)) & 1 == 1
+    }
+
+    /// The first class of the group from this number on. Words without a class take a step each.
+    pub fn first_from(&self, class: u32) -> Option<u32>
+        ensures found { IfSome result (IsFirstFrom self.now class) }
+        ensures none { IfNone result (HasNoneFrom self.now class) }
+    {
+        if class >= 512 {
+            return None;
+        }
+        let place = (class / 64) as usize;
+        let word = self.0[place] >> (class % 64);
+        if word != 0 {
+            return Some(class + word.trailing_zeros());
+        }
+        for i in place + 1..8 {
+            let word = self.0[i];
+            if word != 0 {
+                return Some(64 * i as u32 + word.trailing_zeros());
+            }
+        }
+        None
     }
 }
 

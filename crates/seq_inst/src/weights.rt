@@ -7,16 +7,17 @@ ghost use Rattle.seq_inst.specs.Instances.{problem_of};
 use crate::group::Group;
 use crate::instance::Instance;
 
-/// The sum of the weights of the group's classes.
+/// The sum of the weights of the group's classes. It goes from class to class, and passes over words
+/// without one.
 pub fn weight_of(inst: &Instance, group: &Group) -> u64
     requires { IsWithin (problem_of inst.now) (members group.now) }
     ensures { result ≡ class_weights (problem_of inst.now) (members group.now) }
 {
     let mut total = 0;
-    for class in 0..inst.weights.len() {
-        if group.has(class as u32) {
-            total += inst.weights[class];
-        }
+    let mut next = group.first_from(0);
+    while let Some(class) = next {
+        total += inst.weights[class as usize];
+        next = group.first_from(class + 1);
     }
     total
 }
