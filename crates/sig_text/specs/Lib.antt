@@ -4,3 +4,4 @@ pub mod Keys
 pub mod SmallModel
 pub mod SmallForm
 pub mod Reading
+pub mod Examples

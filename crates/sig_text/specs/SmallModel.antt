@@ -1,6 +1,6 @@
 -- The small models: one block of parts and points, each link from a part straight to a point.
-use Rattle.std.specs.Prelude.{◌≡◌, ◌≤◌, ℕ, ◌+◌, Bool, true, false, ◌&&◌, not, nat_le, List, [], ◌∷◌, ◌++◌, length, map, Option, Some, None, is_some, is_none, All}
-use Rattle.std.specs.List.{list_any, list_all}
+use Rattle.std.specs.Prelude.{◌≡◌, ◌≤◌, ℕ, ◌==◌, Bool, true, false, ◌&&◌, not, nat_le, List, [], ◌∷◌, ◌++◌, length, map, Option, Some, None, is_none, All}
+use Rattle.std.specs.List.{list_any, list_all, sum_by}
 use Rattle.std.specs.Str.{bytes_eq}
 use Rattle.sig_types.specs.declared.model.Model.{Model}
 use Rattle.sig_types.specs.declared.model.Block.{Block}
@@ -24,8 +24,7 @@ differ [] = true
 differ (name ∷ rest) = not (is_among rest name) && differ rest
 
 abbrev pub no_entry : {A : Type 0} → List A → Bool
-no_entry [] = true
-no_entry (x ∷ rest) = false
+no_entry xs = length xs == 0
 
 abbrev pub part_names : Block → List (List ℕ)
 part_names block = map (λ (part : Part). part.name) block.parts
@@ -38,8 +37,7 @@ test_names point = map (λ (test : Test). test.name) point.tests
 
 -- how many tests there are in all
 abbrev pub test_count : List Point → ℕ
-test_count [] = 0
-test_count (point ∷ rest) = length point.tests + test_count rest
+test_count points = sum_by (λ (point : Point). length point.tests) points
 
 -- a functional fault of known signals
 abbrev pub is_small_fault : List (List ℕ) → Option Functional → Bool

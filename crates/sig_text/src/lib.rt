@@ -6,6 +6,12 @@
 
 mod items;
 mod keys;
+mod reader;
+mod small;
 mod tables;
 mod values;
 
+pub use reader::read_model;
+
+#[cfg(test)]
+mod tests;
