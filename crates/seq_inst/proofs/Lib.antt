@@ -1,0 +1,10 @@
+pub mod MembersLaws
+pub mod WordLaws
+pub mod SameGroups
+pub mod PartsLaws
+pub mod RootLaws
+pub mod ShapeLaws
+pub mod CostCode
+pub mod WalkCode
+pub mod ValidLaws
+pub mod SolveLaws

@@ -1,4 +1,7 @@
 pub mod Members
 pub mod Valid
 pub mod Instances
+pub mod Answers
 pub mod Trees
+pub mod Shapes
+pub mod Solved

@@ -1,0 +1,104 @@
+-- What the calls on groups owe.
+use Rattle.std.proofs.Common.{◌≡◌, ◌≢◌, ℕ, zero, suc, ◌+◌, ◌<◌, ◌≤◌, List, [], ◌∷◌, ◌++◌, length, refl, sym, ap, ◌∙◌, arith, inl, inr}
+use Rattle.std.specs.Prelude.{Bool, true, false, ◌&&◌, filter, nat_le, nat_lt}
+use Rattle.std.specs.List.{list_any}
+use Rattle.std.proofs.lemmas.Bool.{cases_Bool, ne_eqb, le-leb, lt-leb, lt-ltb}
+use Rattle.seq_theory.specs.Problem.{Problem, count_up, IsIn, IsWithin, fails, pass_part, fail_part, splits, weight_of, is_end, all_classes}
+use Rattle.seq_theory.proofs.LeastLaws.{count_up-IsIn, IsIn-count_up}
+use Rattle.seq_theory.proofs.GroupLaws.{IsIn-filter, filter-IsIn}
+use Rattle.seq_inst.specs.declared.group.Group.{Group}
+use Rattle.seq_inst.specs.declared.instance.Instance.{Instance}
+use Rattle.seq_inst.specs.Members.{has_class, members_below, members}
+use Rattle.seq_inst.specs.Instances.{problem_of}
+use Rattle.seq_inst.proofs.MembersLaws.{members_below-in, members_below-out}
+
+-- some number passes exactly where the filter is not empty
+pub any-length : (f : ℕ → Bool) (xs : List ℕ) → nat_lt 0 (length (filter f xs)) ≡ list_any f xs
+any-length f [] = refl
+any-length f (x ∷ xs) = elim (cases_Bool (f x)) [
+  | inl y ↦ rw y (lt-ltb 0 (suc (length (filter f xs))) (omega arith))
+  | inr n ↦ rw n (any-length f xs)
+]
+
+pub splits-counts : (p : Problem) (xs : List ℕ) (t : ℕ) → (nat_lt 0 (length (pass_part p t xs)) && nat_lt 0 (length (fail_part p t xs))) ≡ splits p xs t
+splits-counts p xs t = ap (λ b. b && nat_lt 0 (length (fail_part p t xs))) (any-length (p.passes t) xs) ∙ ap (λ b. list_any (p.passes t) xs && b) (any-length (fails p t) xs)
+
+-- two classes of a group differ
+second_differs : (f : ℕ → Bool) (from n x y : ℕ) (rest : List ℕ) → filter f (count_up from n) ≡ x ∷ y ∷ rest → x ≢ y
+second_differs f from zero x y rest e = (λ s. let h : ⊥ = cc in h)
+second_differs f from (suc n) x y rest e = elim (cases_Bool (f from)) [
+  | inl yes' ↦
+      (let e' = rw yes' at e in
+      let heads : from ≡ x = cc in
+      let tails : filter f (count_up (suc from) n) ≡ y ∷ rest = cc in
+      λ s.
+      let i : IsIn y (filter f (count_up (suc from) n)) = rw tails (inl refl) in
+      let w = count_up-IsIn y (suc from) n (filter-IsIn f y (count_up (suc from) n) i) in
+      let h : ⊥ = omega arith in h)
+  | inr no' ↦ second_differs f (suc from) n x y rest (rw no' at e)
+]
+
+pub is_end-length : (inst : Instance) (g : Group) → nat_le (length (members g)) 1 ≡ is_end (problem_of inst) (members g)
+unfolding members_below
+is_end-length inst g = go (members g) refl
+  where
+    go : (xs : List ℕ) → members g ≡ xs → nat_le (length xs) 1 ≡ is_end (problem_of inst) xs
+    go [] e = le-leb 0 1 (omega arith)
+    go (x ∷ []) e = le-leb 1 1 (omega arith)
+    go (x ∷ y ∷ rest) e =
+        lt-leb (suc (suc (length rest))) 1 (omega arith) ∙ sym (rw (ne_eqb y x (λ s. second_differs (has_class g) 0 512 x y rest e (sym s))) refl)
+
+module _ (p : Problem) where
+  weight-append : (xs ys : List ℕ) → weight_of p (xs ++ ys) ≡ weight_of p xs + weight_of p ys
+  weight-append [] ys = omega arith
+  weight-append (x ∷ xs) ys = omega (arith, weight-append xs ys)
+
+  weight-filter : (f : ℕ → Bool) (xs : List ℕ) → weight_of p (filter f xs) ≤ weight_of p xs
+  weight-filter f [] = omega arith
+  weight-filter f (x ∷ xs) = elim (cases_Bool (f x)) [
+    | inl y ↦ rw y (omega (arith, weight-filter f xs))
+    | inr n ↦ rw n (omega (arith, weight-filter f xs))
+  ]
+
+  weight-count_up : (from m n : ℕ) → m ≤ n → weight_of p (count_up from m) ≤ weight_of p (count_up from n)
+  weight-count_up from zero n le = omega arith
+  weight-count_up from (suc m) zero le = absurd (let h : ⊥ = omega arith in h)
+  weight-count_up from (suc m) (suc n) le = omega (arith, weight-count_up (suc from) m n (omega arith))
+
+  pub weight-members_below : (g : Group) (n : ℕ) → n ≤ p.classes → weight_of p (members_below g n) ≤ weight_of p (all_classes p)
+  unfolding members_below
+  weight-members_below g n le = omega (arith, weight-filter (has_class g) (count_up 0 n), weight-count_up 0 n p.classes le)
+
+  pub weight-members_below-in : (g : Group) (n : ℕ) → has_class g n ≡ true → weight_of p (members_below g (n + 1)) ≡ weight_of p (members_below g n) + p.weight n
+  weight-members_below-in g n e = ap (weight_of p) (members_below-in g n e) ∙ weight-append (members_below g n) (n ∷ []) ∙ (let h : weight_of p (members_below g n) + (p.weight n + 0) ≡ weight_of p (members_below g n) + p.weight n = omega arith in h)
+
+  pub weight-members_below-out : (g : Group) (n : ℕ) → has_class g n ≡ false → weight_of p (members_below g (n + 1)) ≡ weight_of p (members_below g n)
+  weight-members_below-out g n e = ap (weight_of p) (members_below-out g n e)
+
+filter-empty : (f : ℕ → Bool) (from n : ℕ) → ((c : ℕ) → from ≤ c → f c ≡ true → c < from) → filter f (count_up from n) ≡ []
+filter-empty f from zero h = refl
+filter-empty f from (suc n) h = elim (cases_Bool (f from)) [
+  | inl y ↦ absurd (let l = h from (omega arith) y in let bad : ⊥ = omega arith in bad)
+  | inr e ↦ rw e (filter-empty f (suc from) n (λ c le y. let l = h c (omega arith) y in omega arith))
+]
+
+filter-upto : (f : ℕ → Bool) (from m n : ℕ) → m ≤ n → ((c : ℕ) → from + m ≤ c → c < from + n → f c ≡ true → ⊥) → filter f (count_up from m) ≡ filter f (count_up from n)
+filter-upto f from zero zero le h = refl
+filter-upto f from zero (suc n) le h = elim (cases_Bool (f from)) [
+  | inl y ↦ absurd (h from (omega arith) (omega arith) y)
+  | inr e ↦ rw e (filter-upto f (suc from) zero n (omega arith) (λ c l1 l2 y. h c (omega arith) (omega arith) y))
+]
+filter-upto f from (suc m) zero le h = absurd (let bad : ⊥ = omega arith in bad)
+filter-upto f from (suc m) (suc n) le h =
+    let rest = filter-upto f (suc from) m n (omega arith) (λ c l1 l2 y. h c (omega arith) (omega arith) y) in
+    elim (cases_Bool (f from)) [
+      | inl y ↦ rw y (ap (λ l. from ∷ l) rest)
+      | inr e ↦ rw e rest
+    ]
+
+-- a group within the classes has no class past the last
+pub members-within : (p : Problem) (g : Group) → p.classes ≤ 512 → IsWithin p (members g) → members_below g p.classes ≡ members g
+unfolding members_below
+members-within p g le within = filter-upto (has_class g) 0 p.classes 512 le (λ c l1 l2 y.
+    let w = within c (IsIn-filter (has_class g) c (count_up 0 512) (IsIn-count_up c 0 512 (omega arith) (omega arith)) y) in
+    let bad : ⊥ = omega arith in bad)

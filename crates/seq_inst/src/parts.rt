@@ -1,0 +1,62 @@
+//! The group of all classes, and how tests divide groups. Everything above a group's words asks these
+//! calls: which part passes a test, whether both parts have a class, and whether a group is an end.
+ghost use Rattle.std.specs.Prelude.{◌≡◌, ◌<◌, vec_len};
+ghost use Rattle.seq_theory.specs.Problem.{all_classes, is_end, splits as is_split};
+ghost use Rattle.seq_theory.specs.Graph.{part as part_by};
+ghost use Rattle.seq_inst.specs.Members.{members};
+ghost use Rattle.seq_inst.specs.Instances.{problem_of};
+ghost use Rattle.seq_inst.specs.Answers.{is_pass};
+
+use crate::group::{Group, common, count_of, lacks, shares, without};
+use crate::instance::Instance;
+
+/// What a test answers.
+#[derive(Clone, Copy, Debug, PartialEq, Eq)]
+pub enum Answer {
+    Pass,
+    Fail,
+}
+
+/// The group of all classes.
+pub fn root(inst: &Instance) -> Group
+    ensures { members result ≡ all_classes (problem_of inst.now) }
+{
+    let mut words = [0; 8];
+    let classes = inst.weights.len() as u32;
+    for class in 0..classes {
+        let place = (class / 64) as usize;
+        words[place] |= 1 << (class % 64);
+    }
+    Group(words)
+}
+
+/// The classes of the group for which the test has this answer.
+pub fn part(inst: &Instance, group: &Group, test: u32, answer: Answer) -> Group
+    requires { test < vec_len inst.now.costs }
+    ensures { members result ≡ part_by (problem_of inst.now) test (is_pass answer) (members group.now) }
+{
+    let passes = inst.passes[test as usize];
+    match answer {
+        Answer::Pass => common(group, &passes),
+        Answer::Fail => without(group, &passes),
+    }
+}
+
+/// Whether the test passes for some class of the group and fails for some. It stops at the first word
+/// that shows each.
+pub fn splits(inst: &Instance, group: &Group, test: u32) -> bool
+    requires { test < vec_len inst.now.costs }
+    ensures { result ≡ is_split (problem_of inst.now) (members group.now) test }
+{
+    let passes = &inst.passes[test as usize];
+    shares(group, passes) && lacks(group, passes)
+}
+
+/// Whether the group is an end: all its classes have one goal, so nothing is left to tell apart.
+/// Each crate above tests this by this call alone.
+pub fn is_leaf(inst: &Instance, group: &Group) -> bool
+    ensures { result ≡ is_end (problem_of inst.now) (members group.now) }
+{
+    let _ = inst;
+    count_of(group) <= 1
+}
