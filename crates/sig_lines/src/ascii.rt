@@ -1,4 +1,5 @@
-//! A text made of bytes that are known to be ASCII.
+//! A text made of bytes that are known to be ASCII, as the words of a text that was read: they are UTF-8
+//! then, so only memory can fail.
 ghost use Rattle.std.specs.Str.{IsAscii};
 ghost use Rattle.std.specs.Prelude.{◌≡◌, IfOk};
 

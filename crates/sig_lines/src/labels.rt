@@ -1,6 +1,8 @@
+//! What the states and the tests of a system are called, with what a report says of them beside: the
+//! weight and the class of each state, the cost of each test.
 use sig_types::{List, Text};
 
-/// A state: its weight, its label and the class that it is in.
+/// A state: its weight, its label, and the number of the class that it is in, from 0.
 #[derive(Debug, Drop)]
 pub struct StateLabel {
     pub weight: u32,
@@ -15,9 +17,10 @@ pub struct TestLabel {
     pub label: Text,
 }
 
-/// What the states and tests are called. The mode is `-` where none was named.
+/// What the states and tests are called: `states` is indexed by state, `tests` by test.
 #[derive(Debug, Drop)]
 pub struct Labels {
+    /// The mode that was named, or `-`.
     pub mode: Text,
     pub states: List<StateLabel>,
     pub tests: List<TestLabel>,

@@ -8,8 +8,8 @@ mod ascii;
 mod hex;
 mod hex_reader;
 mod labels;
-mod lines;
 mod line_end;
+mod lines;
 mod number;
 mod pieces;
 mod reader;
@@ -22,3 +22,6 @@ pub use lines::Lines;
 pub use number::{number_between, number_of};
 pub use pieces::{cut, four_words, is_text, one_word, three_words, two_words};
 pub use reader::{LineReader, line_of};
+
+#[cfg(test)]
+mod tests;

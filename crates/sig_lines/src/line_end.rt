@@ -1,4 +1,4 @@
-//! Where a line ends.
+//! Where a line of a text ends, for readers that keep places in place of slices.
 ghost use Rattle.std.specs.Prelude.{◌≡◌, ◌≢◌, ◌<◌, ◌≤◌, ℕ, IfSome, IfNone, length, slice_index};
 
 /// The place of the first LF at or after a place, by one pass over the bytes between.
