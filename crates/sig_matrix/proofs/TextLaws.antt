@@ -1,5 +1,6 @@
 -- A text grows line by line, a row character by character.
 use Rattle.std.proofs.Common.{◌≡◌, ℕ, suc, ◌+◌, List, [], ◌∷◌, ◌++◌, map, refl, sym, ap, ◌∙◌, append_assoc, append-nil, add-one, zero-add}
+use Rattle.std.specs.Prelude.{codes}
 use Rattle.sig_lines.specs.Pieces.{spaced, bytes_of}
 use Rattle.seq_theory.specs.Problem.{count_up}
 use Rattle.seq_theory.proofs.StatesLaws.{count_up-last}
@@ -28,3 +29,35 @@ pub row-next : {A : Type 0} (out start : List ℕ) (f : A → ℕ) (g : ℕ → 
 row-next out start f g n e =
     ap (λ l. l ++ f (g n) ∷ []) e ∙ append_assoc start (map f (map g (count_up 0 n))) (f (g n) ∷ [])
     ∙ ap (λ l. start ++ l) (sym (map-last f (map g (count_up 0 n)) (g n))) ∙ ap (λ l. start ++ map f l) (sym (map-next g n))
+
+-- the pieces that are appended, one after another, are the lines of the text
+abbrev pub opening : List ℕ
+opening = codes "teams matrix 1" ++ 10 ∷ codes "mode "
+
+abbrev pub closing : List ℕ
+closing = codes "end" ++ 10 ∷ []
+
+abbrev pub whole_lines : List ℕ → Words → List Words → Words → List Words → List Words
+whole_lines mode n tests k states =
+    (codes "teams" ∷ codes "matrix" ∷ codes "1" ∷ []) ∷ (codes "mode" ∷ mode ∷ []) ∷ n ∷ tests ++ k ∷ states ++ (codes "end" ∷ []) ∷ []
+
+flat : (start mode n tests k states close : List ℕ) → ((((((start ++ mode) ++ 10 ∷ []) ++ (n ++ 10 ∷ [])) ++ tests) ++ (k ++ 10 ∷ [])) ++ states) ++ close ≡ start ++ (mode ++ 10 ∷ (n ++ 10 ∷ (tests ++ (k ++ 10 ∷ (states ++ close)))))
+flat start mode n tests k states close = simp append_assoc
+
+nest : (tests k states close : List ℕ) → (tests ++ (k ++ 10 ∷ states)) ++ close ≡ tests ++ (k ++ 10 ∷ (states ++ close))
+nest tests k states close = simp append_assoc
+
+pieces : (mode : List ℕ) (n : Words) (tests : List Words) (k : Words) (states : List Words)
+    → ((((((opening ++ mode) ++ 10 ∷ []) ++ (spaced n ++ 10 ∷ [])) ++ bytes_of tests) ++ (spaced k ++ 10 ∷ [])) ++ bytes_of states) ++ closing ≡ bytes_of (whole_lines mode n tests k states)
+pieces mode n tests k states =
+    let ending = (codes "end" ∷ []) ∷ [] in
+    let rest : bytes_of ((tests ++ (k ∷ states)) ++ ending) ≡ bytes_of tests ++ (spaced k ++ 10 ∷ (bytes_of states ++ closing)) =
+    bytes-append (tests ++ (k ∷ states)) ending ∙ ap (λ l. l ++ closing) (bytes-append tests (k ∷ states)) ∙ nest (bytes_of tests) (spaced k) (bytes_of states) closing in
+    flat opening mode (spaced n) (bytes_of tests) (spaced k) (bytes_of states) closing ∙ ap (λ l. opening ++ (mode ++ 10 ∷ (spaced n ++ 10 ∷ l))) (sym rest)
+
+pub text-whole : (mode : List ℕ) (n : Words) (tests : List Words) (k : Words) (states : List Words) (o a b c d e f g h : List ℕ) → o ≡ [] → a ≡ o ++ opening → b ≡ a ++ mode → c ≡ b ++ 10 ∷ [] → d ≡ c ++ (spaced n ++ 10 ∷ []) → e ≡ d ++ bytes_of tests
+    → f ≡ e ++ (spaced k ++ 10 ∷ []) → g ≡ f ++ bytes_of states → h ≡ g ++ closing → h ≡ bytes_of (whole_lines mode n tests k states)
+text-whole mode n tests k states o a b c d e f g h is_o is_a is_b is_c is_d is_e is_f is_g is_h =
+    is_h ∙ ap (λ l. l ++ closing) (is_g ∙ ap (λ l. l ++ bytes_of states) (is_f ∙ ap (λ l. l ++ (spaced k ++ 10 ∷ [])) (is_e ∙ ap (λ l. l ++ bytes_of tests)
+    (is_d ∙ ap (λ l. l ++ (spaced n ++ 10 ∷ [])) (is_c ∙ ap (λ l. l ++ 10 ∷ []) (is_b ∙ ap (λ l. l ++ mode) (is_a ∙ ap (λ l. l ++ opening) is_o)))))))
+    ∙ pieces mode n tests k states

@@ -4,7 +4,7 @@ ghost use Rattle.std.specs.Prelude.{◌≡◌, ◌++◌, ◌∷◌, [], ◌<◌,
 ghost use Rattle.sig_lines.specs.Pieces.{spaced, bytes_of};
 ghost use Rattle.seq_theory.specs.Problem.{count_up};
 ghost use Rattle.sig_matrix.specs.Detection.{state_count};
-ghost use Rattle.sig_matrix.specs.MatrixText.{number_words, test_words, row_word, state_words, matrix_bytes};
+ghost use Rattle.sig_matrix.specs.MatrixText.{number_words, test_words, outcome, row_word, state_words, matrix_bytes};
 ghost use Rattle.sig_matrix.specs.Valid.{IsValid};
 
 use crate::matrix::Matrix;
@@ -45,6 +45,13 @@ fn push_test(out: &mut Vec<u8>, matrix: &Matrix, test: u32) -> Result<(), AllocE
     Ok(())
 }
 
+/// The character of a test that fails, or that passes.
+fn outcome(fails: bool) -> u8
+    ensures { result ≡ outcome fails }
+{
+    if fails { b'1' } else { b'0' }
+}
+
 /// Appends the row of a state.
 fn push_row(out: &mut Vec<u8>, matrix: &Matrix, state: u32) -> Result<(), AllocError>
     requires state { state < state_count matrix.now }
@@ -56,7 +63,7 @@ fn push_row(out: &mut Vec<u8>, matrix: &Matrix, state: u32) -> Result<(), AllocE
         return Ok(());
     }
     for test in 0..matrix.tests.len() {
-        out.push(if matrix.fails(state, test as u32) { b'1' } else { b'0' })?;
+        out.push(outcome(matrix.fails(state, test as u32)))?;
     }
     Ok(())
 }
