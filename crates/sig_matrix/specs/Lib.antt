@@ -1,2 +1,4 @@
 pub mod Detection
 pub mod Valid
+pub mod Filling
+pub mod MatrixText

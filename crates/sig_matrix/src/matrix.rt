@@ -1,5 +1,7 @@
+//! A matrix, and what is read off it: which test detects which fault, and the states with their weights and labels.
+
 ghost use Rattle.std.specs.Prelude.{◌≡◌, ◌<◌, ◌≤◌, length};
-ghost use Rattle.sig_matrix.specs.Detection.{detects, state_count, fails};
+ghost use Rattle.sig_matrix.specs.Detection.{detects, state_count, fails, state_weight, state_label};
 
 use sig_lines::TestLabel;
 use sig_types::{List, Text};
@@ -51,5 +53,31 @@ impl Matrix {
     {
         let before = if self.good == 0 { 0 } else { 1 };
         state >= before && self.detects(state - before, test)
+    }
+
+    /// The weight of the state.
+    pub fn weight(&self, state: u32) -> u32
+        requires { state < state_count self.now }
+        ensures { result ≡ state_weight self.now state }
+    {
+        let before = if self.good == 0 { 0 } else { 1 };
+        if state < before {
+            self.good
+        } else {
+            self.faults.as_slice()[(state - before) as usize].weight
+        }
+    }
+
+    /// The label of the state: `good` without a fault.
+    pub fn label(&self, state: u32) -> &str
+        requires { state < state_count self.now }
+        ensures { result.now ≡ state_label self.now state }
+    {
+        let before = if self.good == 0 { 0 } else { 1 };
+        if state < before {
+            "good"
+        } else {
+            self.faults.as_slice()[(state - before) as usize].label.as_str()
+        }
     }
 }

@@ -1,0 +1,47 @@
+-- The matrix text: what it says, line by line, each line a list of words.
+use Rattle.std.specs.Prelude.{ℕ, nat_eq, Bool, cond, codes, decimal, List, [], ◌∷◌, ◌++◌, map, length, slice_index_or}
+use Rattle.sig_lines.specs.Pieces.{bytes_of}
+use Rattle.seq_theory.specs.Problem.{count_up}
+use Rattle.seq_theory.specs.States.{row}
+use Rattle.sig_matrix.specs.declared.matrix.Matrix.{Matrix}
+use Rattle.sig_matrix.specs.Detection.{system_of, state_count, state_weight, state_label, no_label}
+
+-- the words of one line
+abbrev pub Words : Type 0
+Words = List (List ℕ)
+
+-- a key and a number
+abbrev pub number_words : List ℕ → ℕ → Words
+number_words key n = key ∷ decimal n ∷ []
+
+-- a test: its number, its cost, its label
+abbrev pub test_words : Matrix → ℕ → Words
+test_words matrix t = codes "test" ∷ decimal t ∷ decimal (slice_index_or matrix.tests t no_label).cost ∷ (slice_index_or matrix.tests t no_label).label ∷ []
+
+-- `1` for a test that fails, else `0`
+abbrev pub outcome : Bool → ℕ
+outcome fails = cond fails 49 48
+
+-- the row of a state, one character for each test, or `-` without tests
+abbrev pub row_word : Matrix → ℕ → List ℕ
+row_word matrix s = cond (nat_eq (length matrix.tests) 0) (codes "-") (map outcome (row (system_of matrix) s))
+
+-- a state: its weight, its row, its label
+abbrev pub state_words : Matrix → ℕ → Words
+state_words matrix s = codes "state" ∷ decimal (state_weight matrix s) ∷ row_word matrix s ∷ state_label matrix s ∷ []
+
+-- the lines of the text
+abbrev pub matrix_lines : Matrix → List ℕ → List Words
+matrix_lines matrix mode =
+    (codes "teams" ∷ codes "matrix" ∷ codes "1" ∷ [])
+    ∷ (codes "mode" ∷ mode ∷ [])
+    ∷ number_words (codes "tests") (length matrix.tests)
+    ∷ map (test_words matrix) (count_up 0 (length matrix.tests))
+    ++ number_words (codes "states") (state_count matrix)
+    ∷ map (state_words matrix) (count_up 0 (state_count matrix))
+    ++ (codes "end" ∷ [])
+    ∷ []
+
+-- the bytes of the text
+abbrev pub matrix_bytes : Matrix → List ℕ → List ℕ
+matrix_bytes matrix mode = bytes_of (matrix_lines matrix mode)

@@ -1,0 +1,42 @@
+//! Whether one test detects one fault.
+//!
+//! A general fault is seen along free paths. A functional one needs a signal that is both the fault's and the test's, and
+//! a path for it: the common signals are one `and` of two words, and only for these is a path asked for.
+
+ghost use Rattle.std.specs.Prelude.{◌≡◌, ℕ, ◌<◌, ◌↔◌, true, length, IsTrue};
+ghost use Rattle.sig_types.specs.Sets.{has_bit};
+ghost use Rattle.sig_reach.specs.Columns.{HasTest};
+ghost use Rattle.sig_reach.specs.Paths.{HasSignalPath};
+ghost use Rattle.sig_matrix.specs.Detection.{Detects};
+
+use sig_flat::{Fault, FlatTest};
+use sig_reach::Reach;
+use sig_types::Signals;
+
+/// Whether a path for one of the signals leads from the one node to the other.
+fn carries_any(reach: &Reach, from: u32, signals: Signals, to: u32) -> bool
+    requires from { from < length reach.now.flat.nodes }
+    requires to { HasTest reach.now.flat to }
+    ensures { IsTrue result ↔ ((s : ℕ) × (has_bit signals.0 s ≡ true) × HasSignalPath reach.now.flat reach.now.mode s from to) }
+{
+    for signal in 0..64 {
+        if signals.has(signal) && reach.carries(from, signal, to) {
+            return true;
+        }
+    }
+    false
+}
+
+/// Whether the test, made in the mode of the reach, detects the fault.
+pub fn is_detected(reach: &Reach, fault: &Fault, test: &FlatTest) -> bool
+    requires mode { reach.now.mode ≡ test.now.mode }
+    requires part { fault.now.node < length reach.now.flat.nodes }
+    requires point { HasTest reach.now.flat test.now.node }
+    ensures { IsTrue result ↔ Detects reach.now.flat fault.now test.now }
+{
+    if fault.general {
+        return reach.joins(fault.node, test.node);
+    }
+    let common = Signals(fault.signals.0 & test.signals.0);
+    common.0 != 0 && carries_any(reach, fault.node, common, test.node)
+}
