@@ -1,5 +1,6 @@
--- What a shelf holds, and what a read of it gives.
-use Rattle.std.specs.Prelude.{◌≡◌, ⊤, ℕ, ◌<◌, ◌≤◌, List, [], length, take, drop, Option, Some, None, Result, Ok, Err, IsErrOf}
+-- What a shelf holds, and what a read of it gives. A shelf may tell what it holds, as a shelf in memory does, or not, as a file
+-- system can't. So each definition says something of the files only where they are told, and holds anyway where they aren't.
+use Rattle.std.specs.Prelude.{◌≡◌, ⊤, ℕ, ◌<◌, ◌≤◌, List, length, take, drop, Option, Some, None, Result, Ok, Err, IsErrOf}
 use Rattle.sig_edge.specs.Causes.{Rose}
 use Rattle.sig_edge.specs.declared.shelf.ShelfFault.{ShelfFault}
 use Rattle.sig_edge.specs.declared.shelf.ShelfFault.TheVariants.{Missing, Failed}
@@ -14,6 +15,7 @@ pub record IsPart (bytes : List ℕ) (at : ℕ) (into : List ℕ) (n : ℕ) : Ty
   pub within : n ≤ length (drop at bytes)
   pub ends : n ≡ 0 → 0 < length into → length bytes ≤ at
 
+-- what was read is a part of the file, which is held
 abbrev pub PartOf : Option (List ℕ) → ℕ → List ℕ → ℕ → Type 0
 PartOf None at into n = ⊥
 PartOf (Some bytes) at into n = IsPart bytes at into n
@@ -42,6 +44,7 @@ abbrev pub HoldsNone : Holds → List ℕ → Type 0
 HoldsNone None name = ⊤
 HoldsNone (Some held) name = held name ≡ None
 
+-- there is a file, and it has more bytes than the limit
 abbrev pub LongerIn : Option (List ℕ) → ℕ → Type 0
 LongerIn None limit = ⊥
 LongerIn (Some bytes) limit = limit < length bytes
@@ -50,12 +53,3 @@ LongerIn (Some bytes) limit = limit < length bytes
 abbrev pub HoldsLonger : Holds → List ℕ → ℕ → Type 0
 HoldsLonger None name limit = ⊤
 HoldsLonger (Some held) name limit = LongerIn (held name) limit
-
-abbrev pub BeginsIn : Option (List ℕ) → List ℕ → Type 0
-BeginsIn None content = content ≡ []
-BeginsIn (Some bytes) content = take (length content) bytes ≡ content
-
--- where the shelf tells, this is the beginning of what the name is held with; of no file only nothing is
-abbrev pub HoldsFront : Holds → List ℕ → List ℕ → Type 0
-HoldsFront None name content = ⊤
-HoldsFront (Some held) name content = BeginsIn (held name) content

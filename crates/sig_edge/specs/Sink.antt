@@ -1,4 +1,5 @@
--- What a sink has taken.
+-- What a sink has taken. A sink may tell it, as a sink in memory does, or not, as a terminal can't. So each definition says
+-- something of the bytes only where they are told.
 use Rattle.std.specs.Prelude.{◌≡◌, ℕ, ◌<◌, ◌≤◌, List, ◌++◌, length, take, Option, option_map, Result, Ok, Err, OnErr}
 use Rattle.sig_edge.specs.Causes.{Rose}
 use Rattle.sig_edge.specs.declared.writing.PutFault.{PutFault}
@@ -19,5 +20,6 @@ pub record HasSinkCause {E : Type 0} (faults faults' : ℕ) (piece : List ℕ) (
   pub failed : OnErr result (Rose faults faults')
   pub none_taken : result ≡ Ok 0 → 0 < length piece → Rose faults faults'
 
+-- how many bytes were taken before the fault
 abbrev pub sent_of : PutFault → ℕ
 sent_of (Failed sent) = sent

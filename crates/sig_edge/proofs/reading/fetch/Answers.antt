@@ -1,5 +1,5 @@
 use Rattle.std.proofs.Common.{◌∙◌, refl, arith}
-use Rattle.sig_edge.proofs.Fronts.{holds_more}
+use Rattle.sig_edge.proofs.Pieces.{holds_more}
 use Rattle.sig_edge.proofs.reading.fetch.Goals as goal
 
 pub loop-buffer-preserved : goal.loop-buffer-preserved

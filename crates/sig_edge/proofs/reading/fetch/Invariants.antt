@@ -1,8 +1,8 @@
 use Rattle.std.proofs.Common.{◌≡◌, ◌≤◌, ◌+◌, ◌-◌, vec_len}
-use Rattle.sig_edge.specs.Shelf.{HoldsFront}
+use Rattle.sig_edge.proofs.Pieces.{HoldsFront}
 use Rattle.sig_edge.proofs.reading.fetch.Given as goal
 
--- what was read so far is the front of what is held
+-- what was read so far is the beginning of what is held, which is as before, and no count fell
 abbrev pub invariant-loop-buffer : goal.invariant-loop-buffer
 invariant-loop-buffer g l =
     HoldsFront (g.D.Shelf.holds l.shelf) l.name l.content.items

@@ -1,7 +1,7 @@
 use Rattle.std.proofs.Common.{take, drop, arith}
 use Rattle.std.proofs.lemmas.List.{take_rest}
 use Rattle.sig_edge.specs.Sink.{Appends}
-use Rattle.sig_edge.proofs.Fronts.{appends_more}
+use Rattle.sig_edge.proofs.Pieces.{appends_more}
 use Rattle.sig_edge.proofs.writing.put_all.Goals as goal
 
 pub loop-sent-preserved : goal.loop-sent-preserved
