@@ -1,0 +1,57 @@
+//! What no clause can say: what the system's files and writers do behind the traits.
+
+use super::ending::line_of;
+use super::file_shelf::FileShelf;
+use super::out_sink::OutSink;
+use sig_edge::{PutFault, Shelf, ShelfFault, put_all};
+use std::test::Fail;
+use std::{fs, process};
+
+#[test]
+fn reads_a_file_of_the_system(rt: HostRuntime) -> Result<(), Fail> {
+    let path = format!(in rt.alloc(); "/tmp/teams-shelf-{}", process::id(rt.process()))?;
+    fs::write(&rt, path.as_str(), "version = 1\n")?;
+    let through = format!(in rt.alloc(); "{path}/model.toml")?;
+    let mut shelf = FileShelf::new(&rt);
+    let mut into = [0u8; 8];
+    let start = shelf.read_at(path.as_str(), 0, &mut into);
+    let is_start = into.as_slice() == b"version ".as_slice();
+    let rest = shelf.read_at(path.as_str(), 8, &mut into);
+    let end = shelf.read_at(path.as_str(), 12, &mut into);
+    let through_a_file = shelf.read_at(through.as_str(), 0, &mut into);
+    fs::remove_file(&rt, path.as_str())?;
+    let gone = shelf.read_at(path.as_str(), 0, &mut into);
+    let folder = shelf.read_at("/", 0, &mut into);
+    assert_eq!(rt; start, Ok(8));
+    assert!(rt; is_start);
+    assert_eq!(rt; rest, Ok(4));
+    assert_eq!(rt; end, Ok(0));
+    assert_eq!(rt; through_a_file, Err(ShelfFault::Failed));
+    assert_eq!(rt; gone, Err(ShelfFault::Missing));
+    assert_eq!(rt; folder, Err(ShelfFault::Failed));
+    Ok(())
+}
+
+#[test]
+fn a_writer_that_is_full_is_a_fault(rt: HostRuntime) -> Result<(), Fail> {
+    let mut room = [0u8; 4];
+    let mut sink = OutSink::new(room.as_mut_slice());
+    let sent = match put_all(&mut sink, b"123456") {
+        Ok(()) => None,
+        Err(PutFault::Failed { sent }) => Some(sent),
+    };
+    assert_eq!(rt; sent, Some(4));
+    Ok(())
+}
+
+#[test]
+fn each_fault_has_its_line(rt: HostRuntime) -> Result<(), Fail> {
+    assert_eq!(rt; line_of(0), None);
+    assert_eq!(rt; line_of(2), Some("teams: usage"));
+    assert_eq!(rt; line_of(4), Some("teams: read fault"));
+    assert_eq!(rt; line_of(5), Some("teams: write fault"));
+    assert_eq!(rt; line_of(6), Some("teams: no memory"));
+    assert_eq!(rt; line_of(8), Some("teams: no such file"));
+    assert_eq!(rt; line_of(9), Some("teams: file too long"));
+    Ok(())
+}
