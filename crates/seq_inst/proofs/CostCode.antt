@@ -1,7 +1,6 @@
 -- What a strategy that asks a first test owes where its cost is summed: that its parts may be summed, that the sum fits
 -- a word, and that it is the cost.
-use Rattle.std.proofs.Common.{◌≡◌, ℕ, ◌+◌, ◌*◌, ◌^◌, ◌<◌, ◌≤◌, List, arith, ap, ◌∙◌, sym, subst}
-use Rattle.std.specs.Prelude.{max}
+use Rattle.std.proofs.Common.{◌≡◌, ℕ, ◌+◌, ◌*◌, ◌^◌, ◌<◌, ◌≤◌, List, arith, ap, ◌∙◌, subst}
 use Rattle.std.proofs.Math.Nat.{mul-le-mul_left, mul-le-mul_right}
 use Rattle.seq_theory.specs.Problem.{Problem, IsIn, IsWithin, fails, pass_part, fail_part, weight_of}
 use Rattle.seq_theory.specs.Tree.{Tree, ask, AsksOnly, tree_cost}

@@ -1,6 +1,6 @@
 -- The first class of a group from a number on, in a word and in the group.
-use Rattle.std.proofs.Common.{◌≡◌, ℕ, ◌+◌, ◌-◌, ◌*◌, ◌/◌, ◌%◌, ◌^◌, ◌<◌, ◌≤◌, List, [], ◌∷◌, ◌++◌, length, get_or, refl, sym, ap, ◌∙◌, arith, inl, inr, zero, suc}
-use Rattle.std.specs.Prelude.{Bool, true, false, filter, nat_eq, Option, Some, None, IfSome, IfNone}
+use Rattle.std.proofs.Common.{◌≡◌, ℕ, ◌+◌, ◌-◌, ◌*◌, ◌/◌, ◌%◌, ◌^◌, ◌<◌, ◌≤◌, [], ◌∷◌, ◌++◌, get_or, refl, sym, ap, ◌∙◌, arith, inl, inr, zero, suc}
+use Rattle.std.specs.Prelude.{Bool, true, false, filter, Option, Some, None, IfSome, IfNone}
 use Rattle.std.specs.Int.{bit_at, trailing_zeros, w64}
 use Rattle.std.proofs.lemmas.Bool.{cases_lt, eq-eqb, ne_eqb}
 use Rattle.std.proofs.lemmas.Nat.{pow-add}
@@ -8,7 +8,7 @@ use Rattle.std.proofs.lemmas.Nat.Bits.{bit_at-zero, bit_at_above, bit_at-trailin
 use native.Mathlib.Nat.{div-div-eq-div-mul}
 use Rattle.seq_theory.specs.Problem.{count_up}
 use Rattle.seq_inst.specs.declared.group.Group.{Group}
-use Rattle.seq_inst.specs.Members.{has_class, members_below, members, IsFirstFrom, HasNoneFrom}
+use Rattle.seq_inst.specs.Members.{has_class, members_below, IsFirstFrom, HasNoneFrom}
 use Rattle.seq_inst.proofs.MembersLaws.{append-nil, members_below-zero, members_below-in}
 use Rattle.seq_inst.proofs.WordLaws.{place, members_below-split}
 

@@ -1,9 +1,8 @@
 -- What the calls on groups owe.
 use Rattle.std.proofs.Common.{◌≡◌, ◌≢◌, ℕ, zero, suc, ◌+◌, ◌<◌, ◌≤◌, List, [], ◌∷◌, ◌++◌, length, refl, sym, ap, ◌∙◌, arith, inl, inr}
-use Rattle.std.specs.Prelude.{Bool, true, false, ◌&&◌, filter, nat_le, nat_lt, Option}
-use Rattle.std.specs.List.{list_any}
-use Rattle.std.proofs.lemmas.Bool.{cases_Bool, ne_eqb, le-leb, lt-leb, lt-ltb}
-use Rattle.seq_theory.specs.Problem.{Problem, count_up, IsIn, IsWithin, fails, pass_part, fail_part, splits, weight_of, is_end, all_classes}
+use Rattle.std.specs.Prelude.{Bool, true, false, filter, nat_le, Option}
+use Rattle.std.proofs.lemmas.Bool.{cases_Bool, ne_eqb, le-leb, lt-leb}
+use Rattle.seq_theory.specs.Problem.{Problem, count_up, IsIn, IsWithin, weight_of, is_end, all_classes}
 use Rattle.seq_theory.proofs.LeastLaws.{count_up-IsIn, IsIn-count_up}
 use Rattle.seq_theory.proofs.GroupLaws.{IsIn-filter, filter-IsIn}
 use Rattle.seq_inst.specs.declared.group.Group.{Group}

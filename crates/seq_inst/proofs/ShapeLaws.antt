@@ -1,10 +1,10 @@
 -- A strategy that only asks tests which split what reaches them has a class at each leaf, so it is small.
-use Rattle.std.proofs.Common.{◌≡◌, ℕ, ◌+◌, ◌*◌, ◌<◌, ◌≤◌, List, [], ◌∷◌, length, arith, ap}
-use Rattle.std.specs.Prelude.{Bool, true, false, max, cond}
+use Rattle.std.proofs.Common.{ℕ, ◌*◌, ◌<◌, ◌≤◌, List, length, arith, ap}
+use Rattle.std.specs.Prelude.{max}
 use Rattle.std.proofs.lemmas.Bool.{cases_Bool}
 use Rattle.std.proofs.Common.{inl, inr}
 use Rattle.std.proofs.Math.Nat.{mul-le-mul_left, mul-le-mul_right}
-use Rattle.seq_theory.specs.Problem.{Problem, fails, pass_part, fail_part, splits, weight_of}
+use Rattle.seq_theory.specs.Problem.{Problem, pass_part, fail_part, weight_of}
 use Rattle.seq_theory.specs.Tree.{Tree, leaf, ask, asked, costs_of, AsksOnly, tree_cost}
 use Rattle.seq_theory.proofs.CostLaws.{tree_cost-leaf, tree_cost-ask}
 use Rattle.seq_theory.proofs.GroupLaws.{pass_part_smaller, fail_part_smaller, weight_of-parts, length-two_filters}

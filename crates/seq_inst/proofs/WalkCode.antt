@@ -1,6 +1,5 @@
 -- The numbers of a walk fit their words: a path asks at most 512 tests, and leaves are counted by a word of 32 bits.
 use Rattle.std.proofs.Common.{◌≡◌, ℕ, ◌+◌, ◌*◌, ◌^◌, ◌<◌, ◌≤◌, length, arith, subst}
-use Rattle.std.specs.Prelude.{max}
 use Rattle.std.proofs.Math.Nat.{mul-le-mul_right}
 use Rattle.seq_theory.specs.Problem.{Problem}
 use Rattle.seq_theory.specs.Tree.{Tree, ask, asked, costs_of, AsksOnly}

@@ -1,5 +1,5 @@
 -- The shape of a strategy: how many tests a path asks, how many leaves there are, and where a class ends.
-use Rattle.std.specs.Prelude.{◌≡◌, ℕ, ◌+◌, Bool, true, cond, max, List}
+use Rattle.std.specs.Prelude.{◌≡◌, ℕ, ◌+◌, true, cond, max, List}
 use Rattle.seq_theory.specs.Problem.{Problem, pass_part, fail_part, splits}
 use Rattle.seq_theory.specs.Tree.{Tree, leaf, ask}
 

@@ -1,6 +1,6 @@
-use Rattle.std.proofs.Common.{◌≡◌, ◌≤◌, ◌<◌, ◌∙◌, ℕ, sym, ap, arith, subst, rules, refl}
+use Rattle.std.proofs.Common.{◌≡◌, ◌≤◌, ◌<◌, ◌∙◌, sym, ap, arith, subst, refl}
 use Rattle.std.proofs.lemmas.List.{get_or_read}
-use Rattle.seq_theory.specs.Tree.{Tree, AsksOnly, ask, tree_cost}
+use Rattle.seq_theory.specs.Tree.{Tree, AsksOnly, tree_cost}
 use Rattle.seq_theory.proofs.CostLaws.{tree_cost-leaf}
 use Rattle.seq_inst.specs.Members.{members}
 use Rattle.seq_inst.specs.Instances.{problem_of}

@@ -1,4 +1,4 @@
-use Rattle.std.proofs.Common.{◌≡◌, ◌∙◌, ◌+◌, ◌*◌, ◌<◌, ◌^◌, length, arith, ap, sym, get_or, rules}
+use Rattle.std.proofs.Common.{◌≡◌, ◌*◌, ◌<◌, ◌^◌, length, arith, ap, sym, get_or, rules}
 use Rattle.std.proofs.lemmas.Nat.{ones-le}
 use Rattle.seq_inst.specs.Members.{members_below}
 use Rattle.seq_inst.proofs.MembersLaws.{members_below-zero}

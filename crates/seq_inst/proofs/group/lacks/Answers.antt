@@ -1,4 +1,4 @@
-use Rattle.std.proofs.Common.{◌≡◌, ◌*◌, ◌<◌, ◌^◌, arith, ap, sym, get_or, rules}
+use Rattle.std.proofs.Common.{◌<◌, ◌^◌, arith, ap, sym, get_or, rules}
 use Rattle.std.specs.Prelude.{not, bit_and, bit_xor}
 use Rattle.std.specs.List.{list_any}
 use Rattle.seq_inst.specs.Members.{has_class}

@@ -1,5 +1,5 @@
-use Rattle.std.proofs.Common.{◌≡◌, ◌*◌, ◌<◌, ◌^◌, arith, ap, sym, get_or, rules}
-use Rattle.std.specs.Prelude.{not, bit_and, bit_xor}
+use Rattle.std.proofs.Common.{◌<◌, ◌^◌, arith, ap, sym, get_or, rules}
+use Rattle.std.specs.Prelude.{bit_and}
 use Rattle.std.specs.List.{list_any}
 use Rattle.seq_inst.specs.Members.{has_class}
 use Rattle.seq_inst.proofs.MembersLaws.{members_below-zero}

@@ -1,8 +1,6 @@
-use Rattle.std.proofs.Common.{◌≡◌, ◌≤◌, ◌∙◌, ap, arith, length, subst}
-use Rattle.seq_theory.specs.Problem.{all_classes}
+use Rattle.std.proofs.Common.{arith}
 use Rattle.seq_inst.specs.Members.{members}
 use Rattle.seq_inst.specs.Instances.{problem_of}
-use Rattle.seq_inst.specs.Shapes.{leaf_count}
 use Rattle.seq_inst.specs.Trees.{tree_of}
 use Rattle.seq_inst.proofs.RootLaws.{within-all}
 use Rattle.seq_inst.proofs.ShapeLaws.{height-lt-leaves}

@@ -1,6 +1,6 @@
-use Rattle.std.proofs.Common.{◌≡◌, ◌≤◌, ◌<◌, ◌^◌, ◌∙◌, ℕ, sym, ap, arith, subst, length}
+use Rattle.std.proofs.Common.{◌≡◌, ◌<◌, ◌^◌, ◌∙◌, sym, ap, arith, subst, length}
 use Rattle.std.proofs.lemmas.List.{get_or_read}
-use Rattle.seq_theory.specs.Tree.{Tree, asked, costs_of}
+use Rattle.seq_theory.specs.Tree.{asked, costs_of}
 use Rattle.seq_inst.specs.Instances.{problem_of}
 use Rattle.seq_inst.specs.Shapes.{leaf_count, leaf_of}
 use Rattle.seq_inst.specs.Trees.{tree_of}

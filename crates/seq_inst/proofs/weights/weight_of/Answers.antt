@@ -2,9 +2,9 @@ use Rattle.std.proofs.Common.{◌≡◌, ◌+◌, ℕ, ap, sym, arith, subst}
 use Rattle.std.specs.Prelude.{Option, Some}
 use Rattle.std.proofs.lemmas.List.{get_or_read}
 use Rattle.seq_theory.specs.Problem.{weight_of}
-use Rattle.seq_inst.specs.Members.{members_below, members}
+use Rattle.seq_inst.specs.Members.{members_below}
 use Rattle.seq_inst.specs.Instances.{problem_of}
-use Rattle.seq_inst.proofs.FirstLaws.{IsClass, reached, found-by, found-class, first-members, next-members}
+use Rattle.seq_inst.proofs.FirstLaws.{IsClass, reached, found-by, found-class, first-members}
 use Rattle.seq_inst.proofs.PartsLaws.{weight-members_below, weight-members_below-in, weight-next, class-within}
 use Rattle.seq_inst.proofs.weights.weight_of.Goals as goal
 
