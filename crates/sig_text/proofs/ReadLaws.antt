@@ -1,12 +1,12 @@
 -- What an answer by the test of the form says of the text.
-use Rattle.std.proofs.Common.{◌≡◌, Some, Ok, Err, ℕ, List}
+use Rattle.std.proofs.Common.{◌≡◌, Some, Ok, Err}
 use Rattle.std.specs.Prelude.{Result, Option, IfOk, IfErr}
 use Rattle.std.proofs.lemmas.Bool.{and_parts}
 use Rattle.toml.specs.Data.{Members}
 use Rattle.sig_types.specs.declared.model.Model.{Model}
 use Rattle.sig_types.specs.declared.refusals.ModelFault.{ModelFault}
 use Rattle.sig_types.specs.declared.refusals.ModelFault.TheVariants.{Refused, OutOfMemory}
-use Rattle.sig_text.specs.SmallForm.{has_small_keys, is_small_text, small_model}
+use Rattle.sig_text.specs.SmallForm.{is_small_text, small_model}
 use Rattle.sig_text.specs.SmallModel.{IsSmallModel}
 use Rattle.sig_text.specs.Reading.{Answers, StandsFor, TellsWhy}
 use Rattle.sig_text.proofs.SmallLaws.{model_small}

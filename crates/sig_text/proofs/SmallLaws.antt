@@ -1,12 +1,11 @@
 -- What passes the test of small models is small, fact by fact. Each test is a conjunction, which is taken apart.
-use Rattle.std.proofs.Common.{◌≡◌, ◌≤◌, ℕ, Bool, true, false, List, [], ◌∷◌, length, refl, arith}
+use Rattle.std.proofs.Common.{◌≡◌, ◌≤◌, ℕ, Bool, true, List, [], ◌∷◌, refl, arith}
 use Rattle.std.specs.Prelude.{nat_le, Option, Some, None, is_none, All}
 use Rattle.std.specs.List.{list_all}
 use Rattle.std.proofs.lemmas.Bool.{and_parts, false≢true}
 use Rattle.std.proofs.lemmas.Bool.Decides.{nat_tests}
 use Rattle.std.proofs.lemmas.List.Elements.{All-nil, All-cons}
 use Rattle.std.proofs.lemmas.Slice.Eq.{bytes_eq-Decides}
-use Rattle.std.specs.Str.{bytes_eq}
 use Rattle.sig_types.specs.declared.model.Model.{Model}
 use Rattle.sig_types.specs.declared.model.Block.{Block}
 use Rattle.sig_types.specs.declared.model.Functional.{Functional}
@@ -14,7 +13,7 @@ use Rattle.sig_types.specs.declared.model.Part.{Part}
 use Rattle.sig_types.specs.declared.model.Point.{Point}
 use Rattle.sig_types.specs.declared.model.Test.{Test}
 use Rattle.sig_types.specs.declared.model.Link.{Link}
-use Rattle.sig_text.specs.SmallModel.{are_among, is_among, differ, no_entry, part_names, point_names, test_names, test_count, is_small_fault, is_small_part, is_small_test, is_small_point, is_small_link, has_small_counts, has_small_items, is_small_block, is_small_list, is_small_model, IsSmallPart, IsSmallTest, IsSmallPoint, IsSmallLink, IsSmallModel}
+use Rattle.sig_text.specs.SmallModel.{are_among, differ, no_entry, part_names, point_names, is_small_fault, is_small_part, is_small_test, is_small_point, is_small_link, is_small_block, is_small_list, is_small_model, IsSmallPart, IsSmallTest, IsSmallPoint, IsSmallLink, IsSmallModel}
 
 empty : {A : Type 0} (xs : List A) → no_entry xs ≡ true → xs ≡ []
 empty [] h = refl

@@ -10,7 +10,7 @@ use Rattle.sig_types.specs.declared.model.Point.{Point}
 use Rattle.sig_types.specs.declared.model.Link.{Link}
 use Rattle.sig_types.specs.declared.model.Model.{Model}
 use Rattle.sig_text.specs.Document.{document_of}
-use Rattle.sig_text.specs.SmallForm.{is_small_text, small_model, has_small_keys, end_of}
+use Rattle.sig_text.specs.SmallForm.{is_small_text, small_model, end_of}
 use Rattle.sig_text.specs.Examples.{box, ring}
 
 -- whether there is a document of the form, and the model that it stands for

@@ -1,5 +1,5 @@
 -- What reading a text answers.
-use Rattle.std.specs.Prelude.{◌≡◌, ⊤, ℕ, Bool, true, false, Option, Some, None, Result, Ok, Err}
+use Rattle.std.specs.Prelude.{◌≡◌, ⊤, Bool, true, false, Option, Some, None, Result, Ok, Err}
 use Rattle.toml.specs.Data.{Members}
 use Rattle.sig_types.specs.declared.model.Model.{Model}
 use Rattle.sig_types.specs.declared.refusals.Code.TheVariants.{M01, Later}

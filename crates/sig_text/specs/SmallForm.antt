@@ -1,10 +1,9 @@
 -- The small form of a text: which keys its tables have, with values of which kind, and the model that it stands for.
-use Rattle.std.specs.Prelude.{ℕ, Bool, ◌&&◌, List, [], Option, Some, None, codes}
-use Rattle.toml.specs.Data.{Data, Members, no_members, get_member}
+use Rattle.std.specs.Prelude.{ℕ, Bool, ◌&&◌, List, [], Some, None, codes}
+use Rattle.toml.specs.Data.{Data, Members, get_member}
 use Rattle.sig_types.specs.declared.model.Model.{Model}
 use Rattle.sig_types.specs.declared.model.Block.{Block}
 use Rattle.sig_types.specs.declared.model.Part.{Part}
-use Rattle.sig_types.specs.declared.model.Functional.{Functional}
 use Rattle.sig_types.specs.declared.model.Point.{Point}
 use Rattle.sig_types.specs.declared.model.Test.{Test}
 use Rattle.sig_types.specs.declared.model.Link.{Link}

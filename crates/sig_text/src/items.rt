@@ -10,9 +10,7 @@ ghost use Rattle.sig_text.specs.SmallForm.{end_of, is_link, small_link, is_test,
 
 use crate::keys::{TableKind, check_keys};
 use crate::tables::{FromTable, optional_tables_at, tables_at};
-use crate::values::{
-    cost_at, good_at, name_at, names_at, number_at, optional_names_at, weight_at,
-};
+use crate::values::{cost_at, good_at, name_at, names_at, number_at, optional_names_at, weight_at};
 use sig_types::{Block, End, Functional, Link, List, Model, ModelFault, Part, Point, Test};
 use std::alloc::Global;
 use toml::Table;

@@ -29,11 +29,7 @@ fn is_key(kind: TableKind, key: &str) -> bool
 {
     match kind {
         TableKind::Document => {
-            key == "version"
-                || key == "good"
-                || key == "top"
-                || key == "signals"
-                || key == "block"
+            key == "version" || key == "good" || key == "top" || key == "signals" || key == "block"
         }
         TableKind::Block => key == "name" || key == "part" || key == "point" || key == "link",
         TableKind::Part => key == "name" || key == "functional" || key == "signals",

@@ -11,8 +11,11 @@ use sig_types::{Block, Functional, Link, Model, Name, Part, Point, Test};
 use std::alloc::{AllocError, Global};
 
 const MOST_PARTS: usize = 64;
+
 const MOST_POINTS: usize = 64;
+
 const MOST_TESTS: usize = 6;
+
 const MOST_SIGNALS: usize = 64;
 
 fn is_among(names: &[Name], name: &Name) -> bool

@@ -14,7 +14,7 @@ use sig_types::{Code, Cost, Good, List, ModelFault, Name, Place, Refusal, Weight
 use std::alloc::Global;
 use toml::{Table, Value};
 
-/// The text is of a form that is not read yet.
+/// Refuses the text: its form is not read yet.
 pub fn refuse<T>() -> Result<T, ModelFault>
     ensures { result ≡ Err (ModelFault.Refused later) }
 {

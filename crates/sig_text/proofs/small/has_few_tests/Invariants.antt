@@ -1,4 +1,4 @@
-use Rattle.std.proofs.Common.{◌≡◌, ◌+◌, ◌≤◌, drop}
+use Rattle.std.proofs.Common.{◌≡◌, ◌+◌, drop}
 use Rattle.sig_text.specs.SmallModel.{test_count}
 use Rattle.sig_text.proofs.small.has_few_tests.Given as goal
 
