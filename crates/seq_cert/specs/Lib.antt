@@ -1,0 +1,5 @@
+pub mod Text
+pub mod TreeLines
+pub mod Order
+pub mod OutcomeReport
+pub mod LabelsOf
