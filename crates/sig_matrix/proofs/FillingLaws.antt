@@ -1,7 +1,10 @@
 -- Rows are filled in bit by bit: by faults for one test, by tests for one mode, and mode by mode.
-use Rattle.std.proofs.Common.{◌≡◌, ◌≢◌, ℕ, zero, suc, ◌+◌, ◌*◌, ◌/◌, ◌%◌, ◌^◌, ◌<◌, ◌≤◌, List, [], ◌∷◌, ◌++◌, length, get_or, set, replicate, refl, sym, ap, ◌∙◌, arith, ◌⊎◌, inl, inr, subst, get_or-set_other, get_or-set_same, w64}
+use Rattle.std.proofs.Common.{◌≡◌, ◌≢◌, ℕ, zero, suc, ◌+◌, ◌*◌, ◌/◌, ◌%◌, ◌^◌, ◌<◌, ◌≤◌, List, [], ◌∷◌, ◌++◌, length, get_or, set, replicate, refl, sym, ap, ◌∙◌, arith, map, take, drop, lt-ltb, ne_eqb, ◌⊎◌, inl, inr, subst, get_or-set_other, get_or-set_same, w64}
 use Rattle.std.specs.Prelude.{Bool, true, false, ◌↔◌, ◌||◌, ◌&&◌, bit_or, nat_eq, nat_lt}
-use Rattle.std.proofs.lemmas.Bool.{cases_Bool, cases_lt, cases_eq, true≢false, eq-eqb}
+use Rattle.std.proofs.Math.Seq.{take-append_seam}
+use Rattle.std.proofs.lemmas.List.{length-replicate}
+use Rattle.std.proofs.lemmas.Bool.{cases_lt, cases_eq, true≢false, eq-eqb}
+use Rattle.std.proofs.lemmas.Bool.Decides.{nat_tests}
 use Rattle.std.proofs.lemmas.Nat.Bits.{bit_at_set_same, bit_at_set_other, bit_at-zero}
 use Rattle.std.specs.Int.{bit_at}
 use Rattle.sig_types.specs.Sets.{has_bit}
@@ -119,9 +122,9 @@ module _ (flat : Flat) (tests : List FlatTest) where
     long = long ∙ h.long;
     filled = λ f t lf lt d. elim (cases_eq t column) [
       | inl e ↦ subst (λ k. (is_set new f k ≡ true) ↔ Detects flat (fault_at flat f) (test_at tests k)) (sym e) (
-          (λ s. elim (added.only f lf s) [ inl o ↦ absurd (true≢false (sym o ∙ h.clear f column lf there undone)) | inr g ↦ g ]),
-          (λ g. added.detected f lf g),
-        )
+        (λ s. elim (added.only f lf s) [ inl o ↦ absurd (true≢false (sym o ∙ h.clear f column lf there undone)) | inr g ↦ g ]),
+        (λ g. added.detected f lf g),
+      )
       | inr ne ↦
           (let r = h.filled f t lf lt (sym (kept t lt ne) ∙ d) in
           ((λ s. r.0 (sym (added.others f t ne) ∙ s)), (λ g. added.others f t ne ∙ r.1 g)))
@@ -132,3 +135,98 @@ module _ (flat : Flat) (tests : List FlatTest) where
     ];
     past = λ f t lf ge lt. added.others f t (λ e. let no : ⊥ = omega arith in no) ∙ h.past f t lf ge lt;
   }
+
+-- the tests with some numbers, one by one
+pub test_at-map : (tests : List FlatTest) (numbers : List ℕ) (t : ℕ) → t < length numbers → test_at (map (test_at tests) numbers) t ≡ test_at tests (get_or numbers t 0)
+test_at-map tests [] t lt = absurd (let no : ⊥ = omega arith in no)
+test_at-map tests (n ∷ numbers) zero lt = refl
+test_at-map tests (n ∷ numbers) (suc t) lt = test_at-map tests numbers t (omega arith)
+
+-- a test of this mode that is next
+next-undone : (m mode n : ℕ) → m ≡ mode → (nat_lt m mode || (nat_eq m mode && nat_lt n n)) ≡ false
+next-undone m mode n e = grind (arith, nat_tests)
+
+next-done : (m mode n : ℕ) → m ≡ mode → (nat_lt m mode || (nat_eq m mode && nat_lt n (n + 1))) ≡ true
+next-done m mode n e = grind (arith, nat_tests)
+
+-- every other test is behind as before
+other-same : (m mode n t : ℕ) → t ≢ n → (nat_lt m mode || (nat_eq m mode && nat_lt t (n + 1))) ≡ (nat_lt m mode || (nat_eq m mode && nat_lt t n))
+other-same m mode n t ne = ap (λ b. nat_lt m mode || (nat_eq m mode && b)) (below t n ne)
+  where
+    below : (t n : ℕ) → t ≢ n → nat_lt t (n + 1) ≡ nat_lt t n
+    below t n ne = grind (arith, nat_tests)
+
+-- a test of another mode is behind as before
+pass-same : (m mode n t : ℕ) → m ≢ mode → (nat_lt m mode || (nat_eq m mode && nat_lt t (n + 1))) ≡ (nat_lt m mode || (nat_eq m mode && nat_lt t n))
+pass-same m mode n t ne = ap (λ b. nat_lt m mode || (b && nat_lt t (n + 1))) (ne_eqb m mode ne) ∙ sym (ap (λ b. nat_lt m mode || (b && nat_lt t n)) (ne_eqb m mode ne))
+
+-- at first the tests of earlier modes are behind, and at last those of this mode too
+first-same : (m mode t : ℕ) → (nat_lt m mode || (nat_eq m mode && nat_lt t 0)) ≡ nat_lt m mode
+first-same m mode t = grind (arith, nat_tests)
+
+last-same : (m mode n t : ℕ) → t < n → nat_lt m (mode + 1) ≡ (nat_lt m mode || (nat_eq m mode && nat_lt t n))
+last-same m mode n t lt = grind (arith, nat_tests)
+
+unused-same : (m mode : ℕ) → m ≢ mode → nat_lt m (mode + 1) ≡ nat_lt m mode
+unused-same m mode ne = grind (arith, nat_tests)
+
+module _ (flat : Flat) (tests : List FlatTest) (mode : ℕ) where
+  -- before the first test of a mode
+  pub mode-first : (rows : List (List ℕ)) → AreRows flat tests (is_before tests mode) rows → AreRows flat tests (is_behind tests mode 0) rows
+  mode-first rows h = rows-same flat tests (is_before tests mode) (is_behind tests mode 0) rows (λ t lt. first-same (test_at tests t).mode mode t) h
+
+  -- the next test is of another mode
+  pub mode-pass : (n : ℕ) (rows : List (List ℕ)) → (test_at tests n).mode ≢ mode → AreRows flat tests (is_behind tests mode n) rows → AreRows flat tests (is_behind tests mode (n + 1)) rows
+  mode-pass n rows ne h = rows-same flat tests (is_behind tests mode n) (is_behind tests mode (n + 1)) rows (λ t lt. elim (cases_eq t n) [
+    | inl e ↦ subst (λ k. is_behind tests mode (n + 1) k ≡ is_behind tests mode n k) (sym e) (pass-same (test_at tests n).mode mode n n ne)
+    | inr apart ↦ other-same (test_at tests t).mode mode n t apart
+  ]) h
+
+  -- the next test is of this mode, and is added
+  pub mode-more : (n : ℕ) (old new : List (List ℕ)) → n < length tests → (test_at tests n).mode ≡ mode → length new ≡ length old → IsTestAdded flat (test_at tests n) n old new
+      → AreRows flat tests (is_behind tests mode n) old → AreRows flat tests (is_behind tests mode (n + 1)) new
+  mode-more n old new there e long added h =
+      rows-more flat tests (is_behind tests mode n) (is_behind tests mode (n + 1)) n old new there (next-undone (test_at tests n).mode mode n e) (next-done (test_at tests n).mode mode n e) (λ t lt apart. other-same (test_at tests t).mode mode n t apart) long added h
+
+  -- after the last test
+  pub mode-last : (n : ℕ) (rows : List (List ℕ)) → length tests ≤ n → AreRows flat tests (is_behind tests mode n) rows → AreRows flat tests (is_before tests (mode + 1)) rows
+  mode-last n rows le h = rows-same flat tests (is_behind tests mode n) (is_before tests (mode + 1)) rows (λ t lt. last-same (test_at tests t).mode mode n t (omega arith)) h
+
+  -- no test is made in the mode
+  pub mode-unused : (rows : List (List ℕ)) → ((t : ℕ) → t < length tests → (test_at tests t).mode ≢ mode) → AreRows flat tests (is_before tests mode) rows → AreRows flat tests (is_before tests (mode + 1)) rows
+  mode-unused rows none h = rows-same flat tests (is_before tests mode) (is_before tests (mode + 1)) rows (λ t lt. unused-same (test_at tests t).mode mode (none t lt)) h
+
+-- at first no bit is set
+no-bit : (n f t : ℕ) → is_set (replicate n (replicate {A = ℕ} 4 0)) f t ≡ false
+no-bit n f t = ap (λ w. has_bit w (t % 64)) (zero-word n f (t / 64)) ∙ ap (λ b. nat_eq b 1) (bit_at-zero (t % 64))
+  where
+    four : (k : ℕ) → get_or (replicate {A = ℕ} 4 0) k 0 ≡ 0
+    four zero = refl
+    four (suc zero) = refl
+    four (suc (suc zero)) = refl
+    four (suc (suc (suc zero))) = refl
+    four (suc (suc (suc (suc k)))) = refl
+
+    zero-word : (n f k : ℕ) → get_or (get_or (replicate n (replicate {A = ℕ} 4 0)) f []) k 0 ≡ 0
+    zero-word zero f k = refl
+    zero-word (suc n) zero k = four k
+    zero-word (suc n) (suc f) k = zero-word n f k
+
+pub rows-none : (flat : Flat) (tests : List FlatTest) (rows : List (List ℕ)) → rows ≡ replicate (length flat.faults) (replicate {A = ℕ} 4 0) → AreRows flat tests (is_before tests 0) rows
+rows-none flat tests rows e = record {
+  long = ap length e ∙ length-replicate (length flat.faults) (replicate {A = ℕ} 4 0);
+  filled = λ f t lf lt d. absurd (let no : ⊥ = never (test_at tests t).mode d in no);
+  clear = λ f t lf lt d. ap (λ l. is_set l f t) e ∙ no-bit (length flat.faults) f t;
+  past = λ f t lf ge lt. ap (λ l. is_set l f t) e ∙ no-bit (length flat.faults) f t;
+}
+  where
+    never : (m : ℕ) → nat_lt m 0 ≡ true → ⊥
+    never m h = grind (arith, nat_tests)
+
+-- at last every test is done
+pub rows-whole : (flat : Flat) (tests : List FlatTest) (rows : List (List ℕ)) (modes : ℕ) → ((t : ℕ) → t < length tests → (test_at tests t).mode < modes) → AreRows flat tests (is_before tests modes) rows → AreRows flat tests (λ t. true) rows
+rows-whole flat tests rows modes few h = rows-same flat tests (is_before tests modes) (λ t. true) rows (λ t lt. sym (lt-ltb (test_at tests t).mode modes (few t lt))) h
+
+-- a slice that was lent from a list of rows comes back whole
+pub whole_rows : (new items : List (List ℕ)) (n : ℕ) → length new ≡ n → take n (new ++ drop (length new) items) ≡ new
+whole_rows new items n e = subst (λ k. take k (new ++ drop (length new) items) ≡ new) e (take-append_seam new (drop (length new) items))

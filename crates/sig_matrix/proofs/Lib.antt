@@ -1,3 +1,4 @@
 pub mod FillingLaws
 pub mod TextLaws
 pub mod DetectionLaws
+pub mod MatrixLaws

@@ -1,5 +1,5 @@
 -- A text grows line by line, a row character by character.
-use Rattle.std.proofs.Common.{◌≡◌, ℕ, suc, ◌+◌, List, [], ◌∷◌, ◌++◌, map, refl, sym, ap, ◌∙◌, append_assoc, append-nil, add-one, zero-add}
+use Rattle.std.proofs.Common.{◌≡◌, ℕ, ◌+◌, List, [], ◌∷◌, ◌++◌, map, refl, sym, ap, ◌∙◌, append_assoc, add-one, zero-add}
 use Rattle.std.specs.Prelude.{codes}
 use Rattle.sig_lines.specs.Pieces.{spaced, bytes_of}
 use Rattle.seq_theory.specs.Problem.{count_up}

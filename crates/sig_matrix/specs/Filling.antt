@@ -1,5 +1,5 @@
 -- Rows of bits that are filled in, test by test.
-use Rattle.std.specs.Prelude.{◌≡◌, ◌≢◌, ◌⊎◌, ◌↔◌, ◌||◌, ◌&&◌, ℕ, ◌<◌, ◌≤◌, nat_eq, nat_lt, Bool, true, false, List, [], length, slice_index_or}
+use Rattle.std.specs.Prelude.{◌≡◌, ◌≢◌, ◌⊎◌, ◌↔◌, ℕ, ◌<◌, ◌≤◌, nat_lt, Bool, true, false, List, [], length, slice_index_or}
 use Rattle.sig_flat.specs.declared.flat.Flat.{Flat}
 use Rattle.sig_flat.specs.declared.flat.FlatTest.{FlatTest}
 use Rattle.sig_matrix.specs.Detection.{Detects, in_row, fault_at, test_at}

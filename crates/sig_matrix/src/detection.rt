@@ -11,16 +11,15 @@ ghost use Rattle.sig_matrix.specs.Detection.{Detects};
 
 use sig_flat::{Fault, FlatTest};
 use sig_reach::Reach;
-use sig_types::Signals;
 
-/// Whether a path for one of the signals leads from the one node to the other.
-fn carries_any(reach: &Reach, from: u32, signals: Signals, to: u32) -> bool
+/// Whether a path for one of the signals, which are bits, leads from the one node to the other.
+fn carries_any(reach: &Reach, from: u32, signals: u64, to: u32) -> bool
     requires from { from < length reach.now.flat.nodes }
     requires to { HasTest reach.now.flat to }
-    ensures { IsTrue result ↔ ((s : ℕ) × (has_bit signals.0 s ≡ true) × HasSignalPath reach.now.flat reach.now.mode s from to) }
+    ensures { IsTrue result ↔ ((s : ℕ) × (has_bit signals s ≡ true) × HasSignalPath reach.now.flat reach.now.mode s from to) }
 {
     for signal in 0..64 {
-        if signals.has(signal) && reach.carries(from, signal, to) {
+        if (signals >> signal) & 1 == 1 && reach.carries(from, signal, to) {
             return true;
         }
     }
@@ -37,6 +36,6 @@ pub fn is_detected(reach: &Reach, fault: &Fault, test: &FlatTest) -> bool
     if fault.general {
         return reach.joins(fault.node, test.node);
     }
-    let common = Signals(fault.signals.0 & test.signals.0);
-    common.0 != 0 && carries_any(reach, fault.node, common, test.node)
+    let common = fault.signals.0 & test.signals.0;
+    common != 0 && carries_any(reach, fault.node, common, test.node)
 }

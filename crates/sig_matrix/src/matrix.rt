@@ -77,7 +77,9 @@ impl Matrix {
         if state < before {
             "good"
         } else {
-            self.faults.as_slice()[(state - before) as usize].label.as_str()
+            self.faults.as_slice()[(state - before) as usize]
+                .label
+                .as_str()
         }
     }
 }

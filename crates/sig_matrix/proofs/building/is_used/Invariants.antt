@@ -1,4 +1,4 @@
-use Rattle.std.proofs.Common.{◌≡◌, ◌≢◌, ℕ, ◌<◌, get_or}
+use Rattle.std.proofs.Common.{◌≢◌, ℕ, ◌<◌, get_or}
 use Rattle.sig_matrix.specs.Detection.{test_at}
 use Rattle.sig_matrix.proofs.building.is_used.Given as goal
 

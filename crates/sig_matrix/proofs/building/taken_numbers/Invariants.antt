@@ -1,4 +1,4 @@
-use Rattle.std.proofs.Common.{◌≡◌, ℕ, ◌<◌, length, map, take}
+use Rattle.std.proofs.Common.{◌≡◌, ◌<◌, length, map, take}
 use Rattle.std.specs.Prelude.{All}
 use Rattle.sig_matrix.specs.Detection.{taken, test_at}
 use Rattle.sig_matrix.proofs.building.taken_numbers.Given as goal

@@ -4,4 +4,4 @@ use Rattle.sig_reach.specs.Paths.{HasSignalPath}
 use Rattle.sig_matrix.proofs.detection.carries_any.Given as goal
 
 abbrev pub invariant-loop-signal : goal.invariant-loop-signal
-invariant-loop-signal l = (s : ℕ) → s < l.signal → has_bit l.signals.0 s ≡ true → HasSignalPath l.reach.flat l.reach.mode s l.from l.to → ⊥
+invariant-loop-signal l = (s : ℕ) → s < l.signal → has_bit l.signals s ≡ true → HasSignalPath l.reach.flat l.reach.mode s l.from l.to → ⊥

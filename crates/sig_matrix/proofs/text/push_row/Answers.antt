@@ -1,4 +1,4 @@
-use Rattle.std.proofs.Common.{◌≡◌, ◌++◌, ◌∷◌, [], ap, ◌∙◌}
+use Rattle.std.proofs.Common.{◌++◌, ◌∷◌, [], ap, ◌∙◌}
 use Rattle.sig_matrix.specs.Detection.{fails}
 use Rattle.sig_matrix.specs.MatrixText.{outcome}
 use Rattle.sig_matrix.proofs.TextLaws.{row-next}
