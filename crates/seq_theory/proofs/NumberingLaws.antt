@@ -1,7 +1,8 @@
 -- Numbering the states' keys in the order of first occurrence gives the ambiguity groups.
 --
 -- When state m comes, the map holds the keys of the first states before m, in order. So the place of its key is the
--- number of groups that begin before its first state, which is its group.
+-- number of groups that begin before its first state, which is its group. The keys need to tell the rows apart only for
+-- the states that came, those below a number.
 use Rattle.std.proofs.Common.{◌≡◌, ◌≢◌, ℕ, zero, suc, ◌+◌, ◌<◌, ◌≤◌, List, [], ◌∷◌, ◌++◌, length, map, refl, sym, ap, ◌∙◌, arith, inl, inr}
 use Rattle.std.specs.Prelude.{Bool, true, false, cond, filter, nat_eq, ◌||◌}
 use Rattle.std.specs.List.{list_any, position_or_len}
@@ -34,12 +35,15 @@ map-push : {K : Type 0} (key : ℕ → K) (xs : List ℕ) (x : ℕ) → map key 
 map-push key [] x = refl
 map-push key (y ∷ ys) x = ap (λ l. key y ∷ l) (map-push key ys x)
 
-module _ (sys : System) {K : Type 0} (eq : K → K → Bool) (key : ℕ → K) (decides : (a b : ℕ) → a < sys.states → b < sys.states → eq (key a) (key b) ≡ same_row sys a b) where
+pub first_alike-le : (sys : System) (s : ℕ) → s < sys.states → first_alike sys s ≤ s
+first_alike-le sys s lt = first_where-le (λ r. same_row sys r s) s 0 sys.states (omega arith) (omega arith) (same-from_row sys s s refl)
+
+module _ (sys : System) {K : Type 0} (eq : K → K → Bool) (key : ℕ → K) (upto : ℕ) (there : upto ≤ sys.states) (decides : (a b : ℕ) → a < upto → b < upto → eq (key a) (key b) ≡ same_row sys a b) where
   -- the first states below a number, and their keys
-  abbrev firsts_below : ℕ → List ℕ
+  abbrev pub firsts_below : ℕ → List ℕ
   firsts_below m = filter (is_first sys) (count_up 0 m)
 
-  abbrev seen : ℕ → List K
+  abbrev pub seen : ℕ → List K
   seen m = map key (firsts_below m)
 
   seen-yes : (m : ℕ) → is_first sys m ≡ true → seen (suc m) ≡ seen m ++ key m ∷ []
@@ -73,10 +77,10 @@ module _ (sys : System) {K : Type 0} (eq : K → K → Bool) (key : ℕ → K) (
     after : first_alike sys s < m → (position_or_len (eq (key s)) (seen m) ≡ begun sys (first_alike sys s)) × (list_any (eq (key s)) (seen m) ≡ true)
 
   -- a first state has the key of s exactly where it is the first state of s
-  meets : (s m : ℕ) → s < sys.states → m < sys.states → is_first sys m ≡ true → m ≡ first_alike sys s → eq (key s) (key m) ≡ true
-  meets s m ls lm y e = decides s m ls lm ∙ same-from_row sys s m (sym (first_alike-row sys s ls) ∙ ap (row sys) (sym e))
+  meets : (s m : ℕ) → s < upto → m < upto → is_first sys m ≡ true → m ≡ first_alike sys s → eq (key s) (key m) ≡ true
+  meets s m ls lm y e = decides s m ls lm ∙ same-from_row sys s m (sym (first_alike-row sys s (omega arith)) ∙ ap (row sys) (sym e))
 
-  misses : (s m : ℕ) → s < sys.states → m < sys.states → is_first sys m ≡ true → m ≢ first_alike sys s → eq (key s) (key m) ≡ false
+  misses : (s m : ℕ) → s < upto → m < upto → is_first sys m ≡ true → m ≢ first_alike sys s → eq (key s) (key m) ≡ false
   misses s m ls lm y ne = elim (cases_Bool (eq (key s) (key m))) [
     | inr n ↦ n
     | inl t ↦ absurd (ne (sym (eqb-true (first_alike sys m) m y) ∙ sym (first_alike-same sys s m (row-from_same sys s m (sym (decides s m ls lm) ∙ t)))))
@@ -97,7 +101,7 @@ module _ (sys : System) {K : Type 0} (eq : K → K → Bool) (key : ℕ → K) (
   inside : (n len : ℕ) (b : Bool) → n ≢ len → cond (nat_eq n len) (len + cond b 0 1) n ≡ n
   inside n len b ne = rw (ne_eqb n len ne) refl
 
-  stands : (s : ℕ) → s < sys.states → (m : ℕ) → m ≤ sys.states → Stands s m
+  stands : (s : ℕ) → s < upto → (m : ℕ) → m ≤ upto → Stands s m
   stands s ls zero le = record { before = λ l. (refl, refl); after = λ l. absurd (let h : ⊥ = omega arith in h) }
   stands s ls (suc m) le =
       let h = stands s ls m (omega arith) in
@@ -111,7 +115,7 @@ module _ (sys : System) {K : Type 0} (eq : K → K → Bool) (key : ℕ → K) (
               before = λ l. (let r = h.before (omega arith) in (ap (position_or_len (eq (key s))) e ∙ r.0 ∙ sym b, ap (list_any (eq (key s))) e ∙ r.1));
               after = λ l. elim (cases_lt f m) [
                 | inl below ↦ (let r = h.after below in (ap (position_or_len (eq (key s))) e ∙ r.0, ap (list_any (eq (key s))) e ∙ r.1))
-                | inr ge ↦ (let same : f ≡ m = omega arith in absurd (true≢false (sym (first_alike-is_first sys s ls) ∙ ap (is_first sys) same ∙ n)))
+                | inr ge ↦ (let same : f ≡ m = omega arith in absurd (true≢false (sym (first_alike-is_first sys s (omega arith)) ∙ ap (is_first sys) same ∙ n)))
               ];
             })
         | inl y ↦
@@ -126,7 +130,7 @@ module _ (sys : System) {K : Type 0} (eq : K → K → Bool) (key : ℕ → K) (
               after = λ l. elim (cases_lt f m) [
                 | inl below ↦
                     (let r = h.after below in
-                    let lower = begun-below sys f m below (first_alike-is_first sys s ls) in
+                    let lower = begun-below sys f m below (first_alike-is_first sys s (omega arith)) in
                     let p = pushed s m y false (misses s m ls (omega arith) y (λ x. let g : ⊥ = omega arith in g)) in
                     let q = inside (position_or_len (eq (key s)) (seen m)) (length (seen m)) false (λ x. let at = r.0 in let g : ⊥ = omega arith in g) in
                     (p.0 ∙ q ∙ r.0, p.1 ∙ ap (λ t. t || false) r.1))
@@ -141,34 +145,37 @@ module _ (sys : System) {K : Type 0} (eq : K → K → Bool) (key : ℕ → K) (
             })
       ]
 
-  first_alike-le : (s : ℕ) → s < sys.states → first_alike sys s ≤ s
-  first_alike-le s lt = first_where-le (λ r. same_row sys r s) s 0 sys.states (omega arith) (omega arith) (same-from_row sys s s refl)
-
-  pub numbers-classes : (m n : ℕ) → m + n ≡ sys.states → numbers_after eq (seen m) (map key (count_up m n)) ≡ map (class_of sys) (count_up m n)
-  numbers-classes m zero e = refl
-  numbers-classes m (suc n) e =
-      let lt : m < sys.states = omega arith in
+  -- the place of a state's key is its group
+  pub number-class : (m : ℕ) → m < upto → position_or_len (eq (key m)) (seen m) ≡ class_of sys m
+  number-class m lt =
       let h = stands m lt m (omega arith) in
-      let le = first_alike-le m lt in
-      let rec = numbers-classes (suc m) n (omega arith) in
+      let le = first_alike-le sys m (omega arith) in
+      elim (cases_lt (first_alike sys m) m) [
+        | inl below ↦ (let r = h.after below in r.0 ∙ sym (class_of-begun sys m))
+        | inr ge ↦ (let same : first_alike sys m ≡ m = omega arith in let r = h.before ge in r.0 ∙ sym (ap (begun sys) same) ∙ sym (class_of-begun sys m))
+      ]
+
+  -- and then the keys of one more state are seen
+  pub seen-more : (m : ℕ) → m < upto → cond (list_any (eq (key m)) (seen m)) (seen m) (seen m ++ key m ∷ []) ≡ seen (suc m)
+  seen-more m lt =
+      let h = stands m lt m (omega arith) in
+      let le = first_alike-le sys m (omega arith) in
       elim (cases_lt (first_alike sys m) m) [
         | inl below ↦
             (let r = h.after below in
             let no_first : is_first sys m ≡ false = ne_eqb (first_alike sys m) m (λ x. let g : ⊥ = omega arith in g) in
-            let e1 : position_or_len (eq (key m)) (seen m) ≡ class_of sys m = r.0 ∙ sym (class_of-begun sys m) in
-            let e2 : cond (list_any (eq (key m)) (seen m)) (seen m) (seen m ++ key m ∷ []) ≡ seen (suc m) = rw r.1 (sym (seen-no m no_first)) in
-            both m n e1 e2 rec)
+            rw r.1 (sym (seen-no m no_first)))
         | inr ge ↦
             (let same : first_alike sys m ≡ m = omega arith in
             let r = h.before ge in
-            let e1 : position_or_len (eq (key m)) (seen m) ≡ class_of sys m = r.0 ∙ sym (ap (begun sys) same) ∙ sym (class_of-begun sys m) in
-            let e2 : cond (list_any (eq (key m)) (seen m)) (seen m) (seen m ++ key m ∷ []) ≡ seen (suc m) = rw r.1 (sym (seen-yes m (eq-eqb (first_alike sys m) m same))) in
-            both m n e1 e2 rec)
+            rw r.1 (sym (seen-yes m (eq-eqb (first_alike sys m) m same))))
       ]
-    where
-      both : (m n : ℕ) → position_or_len (eq (key m)) (seen m) ≡ class_of sys m → cond (list_any (eq (key m)) (seen m)) (seen m) (seen m ++ key m ∷ []) ≡ seen (suc m) → numbers_after eq (seen (suc m)) (map key (count_up (suc m) n)) ≡ map (class_of sys) (count_up (suc m) n)
-          → (position_or_len (eq (key m)) (seen m) ∷ numbers_after eq (cond (list_any (eq (key m)) (seen m)) (seen m) (seen m ++ key m ∷ [])) (map key (count_up (suc m) n))) ≡ class_of sys m ∷ map (class_of sys) (count_up (suc m) n)
-      both m n e1 e2 rec =
-          ap (λ k. k ∷ numbers_after eq (cond (list_any (eq (key m)) (seen m)) (seen m) (seen m ++ key m ∷ [])) (map key (count_up (suc m) n))) e1
-          ∙ ap (λ l. class_of sys m ∷ numbers_after eq l (map key (count_up (suc m) n))) e2
-          ∙ ap (λ l. class_of sys m ∷ l) rec
+
+  pub numbers-classes : (m n : ℕ) → m + n ≡ upto → numbers_after eq (seen m) (map key (count_up m n)) ≡ map (class_of sys) (count_up m n)
+  numbers-classes m zero e = refl
+  numbers-classes m (suc n) e =
+      let lt : m < upto = omega arith in
+      let rest = map key (count_up (suc m) n) in
+      ap (λ k. k ∷ numbers_after eq (cond (list_any (eq (key m)) (seen m)) (seen m) (seen m ++ key m ∷ [])) rest) (number-class m lt)
+      ∙ ap (λ l. class_of sys m ∷ numbers_after eq l rest) (seen-more m lt)
+      ∙ ap (λ l. class_of sys m ∷ l) (numbers-classes (suc m) n (omega arith))

@@ -1,0 +1,3 @@
+pub mod CountLaws
+pub mod GroupingLaws
+pub mod RowWordsLaws

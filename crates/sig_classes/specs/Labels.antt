@@ -12,6 +12,10 @@ use Rattle.sig_classes.specs.States.{state_name}
 abbrev pub state_label : Matrix → ℕ → StateLabel
 state_label matrix s = record { weight = state_weight matrix s; label = state_name matrix s; class = class_of (system_of matrix) s }
 
+-- the labels of the states, in order
+abbrev pub state_labels_of : Matrix → List StateLabel
+state_labels_of matrix = map (state_label matrix) (count_up 0 (state_count matrix))
+
 -- the mode's name, each state with its weight, its name and its ambiguity group, and each test with its cost and its name
 abbrev pub labels_from : Matrix → List ℕ → Labels
-labels_from matrix mode = record { mode = mode; states = map (state_label matrix) (count_up 0 (state_count matrix)); tests = matrix.tests }
+labels_from matrix mode = record { mode = mode; states = state_labels_of matrix; tests = matrix.tests }

@@ -1,4 +1,5 @@
 pub mod Classes
+pub mod Grouping
 pub mod Labels
 pub mod Passing
 pub mod Refusals

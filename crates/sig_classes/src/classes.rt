@@ -19,6 +19,41 @@ pub struct Classes {
     pub weights: Vec<u64>,
 }
 
+impl Classes {
+    ghost use Rattle.std.specs.Prelude.{◌≡◌, ℕ, ◌+◌, ◌^◌, ◌<◌, length, slice_index, [], ◌∷◌, ◌++◌, OnOk};
+    ghost use Rattle.std.specs.List.{position_or_len};
+    ghost use Rattle.std.specs.Str.{bytes_eq};
+    ghost use Rattle.indexmap.specs.IndexSet.{insert_key};
+    ghost use Rattle.sig_classes.specs.States.{AreFourWords};
+    ghost use Rattle.sig_classes.specs.Grouping.{with_weight};
+
+    /// Puts one more state to the class of its row, the first of which is new. `seen` has the rows by
+    /// class.
+    fn add_state(
+        &mut self,
+        seen: &mut IndexSet<[u64; 4]>,
+        row: [u64; 4],
+        weight: u32,
+    ) -> Result<(), AllocError>
+        requires few { length seen.old.keys < 2 ^ 32 }
+        requires room { (c : ℕ) → slice_index self.old.weights.items c + weight < 2 ^ 64 }
+
+        ensures words { AreFourWords row }
+        ensures rows { OnOk result (seen.new.keys ≡ insert_key bytes_eq seen.old.keys row) }
+        ensures class { OnOk result (self.new.class_of.items ≡ self.old.class_of.items ++ position_or_len (bytes_eq row) seen.old.keys ∷ []) }
+        ensures weights { OnOk result (self.new.weights.items ≡ with_weight self.old.weights.items (position_or_len (bytes_eq row) seen.old.keys) weight) }
+    {
+        let (class, _) = seen.insert_full(row)?;
+        self.class_of.push(class as u32)?;
+        if class < self.weights.len() {
+            self.weights[class] += weight as u64;
+        } else {
+            self.weights.push(weight as u64)?;
+        }
+        Ok(())
+    }
+}
+
 ghost use Rattle.sig_classes.specs.Classes.{AreClassesOf};
 
 /// The classes of a matrix: states are in one class where their rows are equal. Takes one look-up a
@@ -28,17 +63,16 @@ pub fn classes_of(alloc: Global, matrix: &Matrix) -> Result<Classes, AllocError>
     ensures { IfOk result (λ c. AreClassesOf (system_of matrix.now) c) }
 {
     let mut seen = IndexSet::new(alloc);
-    let mut class_of = Vec::with_capacity(alloc, matrix.states() as usize)?;
-    let mut weights = Vec::new(alloc);
+    let mut classes = Classes {
+        class_of: Vec::with_capacity(alloc, matrix.states() as usize)?,
+        weights: Vec::new(alloc),
+    };
     for state in 0..matrix.states() {
-        let weight = weight_of_state(matrix, state) as u64;
-        let (class, fresh) = seen.insert_full(row_of(matrix, state))?;
-        class_of.push(class as u32)?;
-        if fresh {
-            weights.push(weight)?;
-        } else {
-            weights[class] += weight;
-        }
+        classes.add_state(
+            &mut seen,
+            row_of(matrix, state),
+            weight_of_state(matrix, state),
+        )?;
     }
-    Ok(Classes { class_of, weights })
+    Ok(classes)
 }

@@ -68,9 +68,9 @@ fn passes_of(alloc: Global, matrix: &Matrix, classes: &Classes) -> Result<Vec<Gr
 {
     let mut passes = vec![in alloc; Group([0; 8]); matrix.tests.len()]?;
     let mut found = 0;
-    for (state, class) in classes.class_of.iter().enumerate() {
-        if *class == found {
-            add_class(passes.as_mut_slice(), row_of(matrix, state as u32), found);
+    for state in 0..matrix.states() {
+        if classes.class_of[state as usize] == found {
+            add_class(passes.as_mut_slice(), row_of(matrix, state), found);
             found += 1;
         }
     }

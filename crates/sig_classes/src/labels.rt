@@ -4,7 +4,7 @@ ghost use Rattle.std.specs.Prelude.{◌≡◌, IfOk};
 ghost use Rattle.sig_matrix.specs.Valid.{IsValid};
 ghost use Rattle.sig_matrix.specs.Detection.{system_of};
 ghost use Rattle.sig_classes.specs.Classes.{AreClassesOf};
-ghost use Rattle.sig_classes.specs.Labels.{labels_from};
+ghost use Rattle.sig_classes.specs.Labels.{state_labels_of, labels_from};
 
 use crate::classes::Classes;
 use crate::states::{name_of, weight_of_state};
@@ -24,14 +24,36 @@ pub fn labels_of(
     requires classes { AreClassesOf (system_of matrix.now) classes.now }
     ensures { IfOk result (λ labels. labels ≡ labels_from matrix.now mode.now) }
 {
+    Ok(Labels {
+        mode: Text::of(alloc, mode)?,
+        states: state_labels(alloc, matrix, classes)?,
+        tests: test_labels(alloc, matrix)?,
+    })
+}
+
+fn state_labels(
+    alloc: Global,
+    matrix: &Matrix,
+    classes: &Classes,
+) -> Result<List<StateLabel>, AllocError>
+    requires valid { IsValid matrix.now }
+    requires classes { AreClassesOf (system_of matrix.now) classes.now }
+    ensures { IfOk result (λ states. states ≡ state_labels_of matrix.now) }
+{
     let mut states = List::new(alloc);
-    for (state, class) in classes.class_of.iter().enumerate() {
+    for state in 0..matrix.states() {
         states.push(StateLabel {
-            weight: weight_of_state(matrix, state as u32),
-            label: name_of(alloc, matrix, state as u32)?,
-            class: *class,
+            weight: weight_of_state(matrix, state),
+            label: name_of(alloc, matrix, state)?,
+            class: classes.class_of[state as usize],
         })?;
     }
+    Ok(states)
+}
+
+fn test_labels(alloc: Global, matrix: &Matrix) -> Result<List<TestLabel>, AllocError>
+    ensures { IfOk result (λ tests. tests ≡ matrix.now.tests) }
+{
     let mut tests = List::new(alloc);
     for test in matrix.tests.as_slice() {
         tests.push(TestLabel {
@@ -39,9 +61,5 @@ pub fn labels_of(
             label: Text::of(alloc, test.label.as_str())?,
         })?;
     }
-    Ok(Labels {
-        mode: Text::of(alloc, mode)?,
-        states,
-        tests,
-    })
+    Ok(tests)
 }

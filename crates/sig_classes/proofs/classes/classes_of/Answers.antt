@@ -1,0 +1,18 @@
+use Rattle.std.proofs.Common.{◌≡◌, ◌≤◌, arith}
+use Rattle.sig_matrix.specs.Detection.{state_count}
+use Rattle.sig_classes.proofs.GroupingLaws.{grouped-few, grouped-room, grouped-more, grouped-all}
+use Rattle.sig_classes.proofs.classes.classes_of.Goals as goal
+
+pub add_state-requires-clause-few : goal.add_state-requires-clause-few
+add_state-requires-clause-few c = grouped-few c.args.matrix.now c.requires c.loop-state.state (omega arith) _ _ _ c.loop-state.invariant
+
+pub add_state-requires-clause-room : goal.add_state-requires-clause-room
+add_state-requires-clause-room c = λ k. grouped-room c.args.matrix.now c.requires c.loop-state.state (omega arith) _ _ _ c.loop-state.invariant k c.weight_of_state.result c.weight_of_state.ensures
+
+pub loop-state-preserved : goal.loop-state-preserved
+loop-state-preserved c =
+    grouped-more c.args.matrix.now c.requires c.loop-state.state (omega arith) _ _ _ c.loop-state.invariant c.row_of.result c.weight_of_state.result _ _ _ c.row_of.ensures
+    c.weight_of_state.ensures c.in_ok-add_state.ensures.words c.in_ok-add_state.ensures.rows c.in_ok-add_state.ensures.class c.in_ok-add_state.ensures.weights
+
+pub returns : goal.returns
+returns c = grouped-all c.args.matrix.now c.requires c.loop-state.state (omega arith) _ c.loop-state.classes c.loop-state.invariant

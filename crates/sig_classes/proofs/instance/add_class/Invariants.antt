@@ -1,0 +1,8 @@
+use Rattle.std.proofs.Common.{take}
+use Rattle.sig_classes.specs.Passing.{AddsClass}
+use Rattle.sig_classes.proofs.PassingLaws.{AddedBelow}
+use Rattle.sig_classes.proofs.instance.add_class.Given as goal
+
+-- the tests so far have the class where its row doesn't fail them
+abbrev pub invariant-loop-test : goal.invariant-loop-test
+invariant-loop-test l = AddedBelow l.row l.class l.test l.initial.passes l.passes
