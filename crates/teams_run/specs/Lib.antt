@@ -4,3 +4,6 @@ pub mod Plans
 pub mod SmallMatrix
 pub mod PlacedTests
 pub mod SmallRows
+pub mod Solved
+pub mod Texts
+pub mod Runs
