@@ -1,4 +1,5 @@
-//! The program: it makes the shelf of the file system and the sink of standard output, and ends with the status's number.
+//! The program: it makes the shelf of the file system and the sink of standard output, calls `run`, and ends with the
+//! status's number.
 //!
 //! What a file or standard output holds can't be proved, so the parts here are few and small, and everything that can be said of
 //! files and texts is said of the traits that they stand behind.
@@ -14,37 +15,24 @@ mod words;
 use ending::line_of;
 use file_shelf::FileShelf;
 use out_sink::OutSink;
-use sig_edge::{FetchFault, PutFault, fetch, put_all};
 use std::process::ExitCode;
+use teams_run::{Status, run};
 use words::{WordsFault, words};
 
-/// Writes the file that the first word names, and gives the status's number.
-fn run(rt: &HostRuntime) -> u8 {
+/// Does what the command line asks, and says how it ended.
+fn status_of(rt: &HostRuntime) -> Status {
     let words = match words(rt) {
         Ok(words) => words,
-        Err(WordsFault::NotText) => return 2,
-        Err(WordsFault::OutOfMemory) => return 6,
-    };
-    let Some(name) = words.first() else {
-        return 2;
+        Err(WordsFault::NotText) => return Status::Usage,
+        Err(WordsFault::OutOfMemory) => return Status::NoMemory,
     };
     let mut shelf = FileShelf::new(rt);
-    let content = match fetch(rt.alloc(), &mut shelf, name.as_str(), 1_048_576) {
-        Ok(content) => content,
-        Err(FetchFault::Missing) => return 8,
-        Err(FetchFault::Failed) => return 4,
-        Err(FetchFault::TooLong) => return 9,
-        Err(FetchFault::OutOfMemory) => return 6,
-    };
     let mut sink = OutSink::new(rt.stdout());
-    match put_all(&mut sink, content.as_slice()) {
-        Ok(()) => 0,
-        Err(PutFault::Failed { sent: _ }) => 5,
-    }
+    run(rt.alloc(), words.as_slice(), &mut shelf, &mut sink)
 }
 
 fn main(rt: HostRuntime) -> ExitCode {
-    let status = run(&rt);
+    let status = status_of(&rt).number();
     if let Some(line) = line_of(status) {
         // Where standard error takes nothing, the status still tells it.
         let _ = eprintln!(rt; "{line}");

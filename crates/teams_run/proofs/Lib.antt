@@ -1,3 +1,4 @@
 pub mod SmallRowLaws
 pub mod ZipLaws
 pub mod SmallMatrixLaws
+pub mod LabelLaws

@@ -1,11 +1,16 @@
 -- What solving a system means, in words of single states, and its report.
-use Rattle.std.specs.Prelude.{◌≡◌, ℕ, List, [], None}
+use Rattle.std.specs.Prelude.{◌≡◌, ⊤, ℕ, ◌<◌, List, [], None}
 use Rattle.seq_theory.specs.Problem.{Problem, all_classes}
 use Rattle.seq_theory.specs.Tree.{Tree, tree_cost, Solves, IsLeast}
 use Rattle.seq_theory.specs.States.{System, state_problem, IsOfClasses}
 use Rattle.seq_inst.specs.declared.outcome.Outcome.{Outcome}
 use Rattle.seq_inst.specs.declared.outcome.Verdict.TheVariants.{Optimal}
 use Rattle.seq_inst.specs.Trees.{tree_of}
+use Rattle.sig_types.specs.declared.refusals.ModelFault.{ModelFault}
+use Rattle.sig_types.specs.declared.refusals.ModelFault.TheVariants.{Refused, OutOfMemory}
+use Rattle.sig_types.specs.declared.refusals.Code.TheVariants.{M13}
+use Rattle.sig_types.specs.declared.refusals.Place.TheVariants.{Count}
+use Rattle.sig_types.specs.declared.refusals.Counted.TheVariants.{Classes as ManyClasses}
 use Rattle.sig_lines.specs.declared.labels.Labels.{Labels}
 use Rattle.seq_cert.specs.Text.{report_bytes}
 use Rattle.seq_cert.specs.OutcomeReport.{report_from}
@@ -44,3 +49,8 @@ pub record IsSolution (sys : System) (labels : Labels) (groups : ℕ) (text : Li
   pub limit : outcome.limit ≡ groups
   pub none_entered : outcome.rows.items ≡ []
   pub report : text ≡ report_bytes (report_from problem outcome labels)
+
+-- a system is refused where it has more than 512 ambiguity groups; want of memory may come at any time
+abbrev pub TellsMany : ℕ → ModelFault → Type 0
+TellsMany classes (Refused refusal) = (512 < classes) × (refusal ≡ record { code = M13; place = Count ManyClasses })
+TellsMany classes OutOfMemory = ⊤

@@ -14,3 +14,6 @@ mod status;
 pub use plan::{Action, Plan, PlanFault, plan_of};
 pub use running::{run, run_quiet};
 pub use status::Status;
+
+#[cfg(test)]
+mod tests;
