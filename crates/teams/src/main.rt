@@ -20,7 +20,7 @@ use words::{WordsFault, words};
 
 /// Writes the file that the first word names, and gives the status's number.
 fn run(rt: &HostRuntime) -> u8 {
-    let words = match words(rt) {
+    let words = match words(rt, rt.alloc()) {
         Ok(words) => words,
         Err(WordsFault::NotText) => return 2,
         Err(WordsFault::OutOfMemory) => return 6,
