@@ -3,9 +3,40 @@
 use super::ending::line_of;
 use super::file_shelf::FileShelf;
 use super::out_sink::OutSink;
+use super::words::{WordsFault, words};
 use sig_edge::{PutFault, Shelf, ShelfFault, put_all};
+use std::env::{Env, FillError};
 use std::test::Fail;
 use std::{fs, process};
+
+/// A command line of a program whose own name isn't UTF-8, with one word.
+#[derive(Drop)]
+struct OneWord<'a> {
+    word: &'a [u8],
+}
+
+impl Env for OneWord<'_> {
+    fn arg(&self, i: usize, buf: &mut [u8]) -> Result<usize, FillError> {
+        let word = match i {
+            0 => b"\xff".as_slice(),
+            1 => self.word,
+            _ => return Err(FillError::NotPresent),
+        };
+        if word.len() > buf.len() {
+            return Err(FillError::TooLong);
+        }
+        buf[..word.len()].copy_from_slice(word);
+        Ok(word.len())
+    }
+
+    fn var(&self, _name: &str, _buf: &mut [u8]) -> Result<usize, FillError> {
+        Err(FillError::NotPresent)
+    }
+
+    fn var_at(&self, _i: usize, _buf: &mut [u8]) -> Result<usize, FillError> {
+        Err(FillError::NotPresent)
+    }
+}
 
 #[test]
 fn reads_a_file_of_the_system(rt: HostRuntime) -> Result<(), Fail> {
@@ -54,4 +85,26 @@ fn each_fault_has_its_line(rt: HostRuntime) -> Result<(), Fail> {
     assert_eq!(rt; line_of(8), Some("teams: no such file"));
     assert_eq!(rt; line_of(9), Some("teams: file too long"));
     Ok(())
+}
+
+#[test]
+fn a_word_that_is_no_text_is_refused(rt: HostRuntime) -> Result<(), Fail> {
+    let alloc = rt.alloc();
+    let long = vec![in alloc; b'x'; 1000]?;
+    for word in [b"solve".as_slice(), b"".as_slice(), long.as_slice()] {
+        match words(&OneWord { word }, alloc) {
+            Ok(taken) => {
+                assert_eq!(rt; taken.len(), 1);
+                assert!(rt; taken[0].as_str().as_bytes() == word);
+            }
+            Err(_) => return Err(Fail::from("no words")),
+        }
+    }
+    match words(&OneWord { word: b"\xc3" }, alloc) {
+        Ok(_) => Err(Fail::from("no fault")),
+        Err(fault) => {
+            assert_eq!(rt; fault, WordsFault::NotText);
+            Ok(())
+        }
+    }
 }
