@@ -19,15 +19,9 @@ use std::process::ExitCode;
 use teams_run::{Status, run};
 use words::{WordsFault, words};
 
-<<<<<<< HEAD
 /// Does what the command line asks, and says how it ended.
 fn status_of(rt: &HostRuntime) -> Status {
-    let words = match words(rt) {
-=======
-/// Writes the file that the first word names, and gives the status's number.
-fn run(rt: &HostRuntime) -> u8 {
     let words = match words(rt, rt.alloc()) {
->>>>>>> a14b9c260f56b35d020c3644abf777a6efa82a3c
         Ok(words) => words,
         Err(WordsFault::NotText) => return Status::Usage,
         Err(WordsFault::OutOfMemory) => return Status::NoMemory,
