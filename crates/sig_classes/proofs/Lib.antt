@@ -1,3 +1,6 @@
+pub mod ClassesLaws
 pub mod CountLaws
 pub mod GroupingLaws
+pub mod PassedLaws
+pub mod PassingLaws
 pub mod RowWordsLaws

@@ -1,14 +1,14 @@
 //! The instance of test sequencing whose classes are the ambiguity groups. A test passes for a class as
 //! for each of its states, since these have equal rows; so only the first state of each class is looked
 //! at.
-ghost use Rattle.std.specs.Prelude.{◌<◌, ◌≤◌, length, IfOk, IfErr, OnOk};
+ghost use Rattle.std.specs.Prelude.{◌≡◌, ◌<◌, ◌≤◌, length, IfOk, IfErr, OnOk};
 ghost use Rattle.sig_matrix.specs.Valid.{IsValid};
 ghost use Rattle.sig_matrix.specs.Detection.{system_of};
 ghost use Rattle.seq_inst.specs.Instances.{problem_of};
 ghost use Rattle.seq_theory.specs.States.{IsOfClasses, firsts};
 ghost use Rattle.sig_classes.specs.Classes.{AreClassesOf};
 ghost use Rattle.sig_classes.specs.Refusals.{TellsManyClasses};
-ghost use Rattle.sig_classes.specs.Passing.{ArePassing, AddsClass};
+ghost use Rattle.sig_classes.specs.Passing.{ArePassing, AreEightWords, AddsClass, AddsTo};
 
 use crate::classes::Classes;
 use crate::states::row_of;
@@ -80,14 +80,21 @@ fn passes_of(alloc: Global, matrix: &Matrix, classes: &Classes) -> Result<Vec<Gr
 /// Adds the class to each test that its row doesn't fail.
 fn add_class(passes: &mut [Group], row: [u64; 4], class: u32)
     requires tests { length passes.old ≤ 256 }
+    requires words { AreEightWords passes.old }
     requires class { class < 512 }
     ensures { AddsClass row class passes.old passes.new }
 {
-    let word = (class / 64) as usize;
-    let bit = 1u64 << (class % 64);
     for (test, group) in passes.iter_mut().enumerate() {
         if (row[test / 64] >> (test % 64)) & 1 == 0 {
-            group.0[word] |= bit;
+            add_to(group, class);
         }
     }
+}
+
+fn add_to(group: &mut Group, class: u32)
+    requires words { length group.old.0 ≡ 8 }
+    requires class { class < 512 }
+    ensures { AddsTo class group.old group.new }
+{
+    group.0[(class / 64) as usize] |= 1 << (class % 64);
 }
