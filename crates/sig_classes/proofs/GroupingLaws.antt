@@ -171,7 +171,7 @@ module _ (matrix : Matrix) (valid : IsValid matrix) where
     summed = record { count = ap length w; sums = λ d lt. absurd (let l = ap length w in let h : ⊥ = omega arith in h) };
   }
 
-  light : (s : ℕ) → s < state_count matrix → state_weight matrix s ≤ 1000000
+  pub light : (s : ℕ) → s < state_count matrix → state_weight matrix s ≤ 1000000
   light s lt = elim (cases_Bool (nat_lt s (before_faults matrix))) [
     | inl healthy ↦ rw healthy valid.good
     | inr faulty ↦ (let after = ltb-false s (before_faults matrix) faulty in rw faulty (valid.weights (s - before_faults matrix) (omega arith)).1)

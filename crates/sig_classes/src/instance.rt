@@ -1,7 +1,7 @@
 //! The instance of test sequencing whose classes are the ambiguity groups. A test passes for a class as
 //! for each of its states, since these have equal rows; so only the first state of each class is looked
 //! at.
-ghost use Rattle.std.specs.Prelude.{◌≡◌, ◌<◌, ◌≤◌, length, IfOk, IfErr, OnOk};
+ghost use Rattle.std.specs.Prelude.{◌≡◌, ◌<◌, ◌≤◌, length, map, IfOk, IfErr, OnOk};
 ghost use Rattle.sig_matrix.specs.Valid.{IsValid};
 ghost use Rattle.sig_matrix.specs.Detection.{system_of};
 ghost use Rattle.seq_inst.specs.Instances.{problem_of};
@@ -13,6 +13,7 @@ ghost use Rattle.sig_classes.specs.Passing.{ArePassing, AreEightWords, AddsClass
 use crate::classes::Classes;
 use crate::states::row_of;
 use seq_inst::{Group, Instance};
+use sig_lines::TestLabel;
 use sig_matrix::Matrix;
 use sig_types::{Code, Counted, ModelFault, Place, Refusal};
 use std::alloc::{AllocError, Global};
@@ -37,26 +38,33 @@ pub fn instance_of(
             place: Place::Count(Counted::Classes),
         }));
     }
-    match lists_of(alloc, matrix, classes) {
+    match instance_of_few(alloc, matrix, classes) {
         Ok(inst) => Ok(inst),
         Err(_) => Err(ModelFault::OutOfMemory),
     }
 }
 
 /// The instance, where there are few enough classes.
-fn lists_of(alloc: Global, matrix: &Matrix, classes: &Classes) -> Result<Instance, AllocError>
+fn instance_of_few(
+    alloc: Global,
+    matrix: &Matrix,
+    classes: &Classes,
+) -> Result<Instance, AllocError>
     requires valid { IsValid matrix.now }
     requires classes { AreClassesOf (system_of matrix.now) classes.now }
     requires few { length (firsts (system_of matrix.now)) ≤ 512 }
     ensures { IfOk result (λ inst. IsOfClasses (system_of matrix.now) (problem_of inst)) }
 {
     let weights = Vec::from_slice(alloc, classes.weights.as_slice())?;
-    let mut costs = Vec::with_capacity(alloc, matrix.tests.len())?;
-    for test in matrix.tests.as_slice() {
-        costs.push(test.cost)?;
-    }
+    let costs = costs_of(alloc, matrix.tests.as_slice())?;
     let passes = passes_of(alloc, matrix, classes)?;
     Ok(Instance::new(weights, costs, passes))
+}
+
+fn costs_of(alloc: Global, tests: &[TestLabel]) -> Result<Vec<u32>, AllocError>
+    ensures { IfOk result (λ costs. costs.items ≡ map (λ test. test.cost) tests.now) }
+{
+    tests.iter().map(|test| test.cost).collect(alloc)
 }
 
 /// By test, the classes that don't fail it.
