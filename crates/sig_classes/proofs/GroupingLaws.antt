@@ -51,7 +51,7 @@ module _ (sys : System) where
   weight_below-out m c ne = let h = weight_below-suc m c in let n = ne_eqb (class_of sys m) c ne in let z : weight_below m c + 0 ≡ weight_below m c = omega arith in (rw n at h) ∙ z
 
   -- a group is numbered below those that began
-  class_of-lt : (s m : ℕ) → m ≤ sys.states → s < m → class_of sys s < begun sys m
+  pub class_of-lt : (s m : ℕ) → m ≤ sys.states → s < m → class_of sys s < begun sys m
   class_of-lt s m le lt =
       let e = class_of-begun sys s in
       let first = first_alike-le sys s (omega arith) in
@@ -77,7 +77,7 @@ module _ (sys : System) where
         | inr ne ↦ (let f = weight_below-out m c ne in omega arith)
       ]
 
-  begun-le : (m : ℕ) → begun sys m ≤ m
+  pub begun-le : (m : ℕ) → begun sys m ≤ m
   begun-le zero = omega arith
   begun-le (suc m) =
       let h = begun-le m in
@@ -171,13 +171,13 @@ module _ (matrix : Matrix) (valid : IsValid matrix) where
     summed = record { count = ap length w; sums = λ d lt. absurd (let l = ap length w in let h : ⊥ = omega arith in h) };
   }
 
-  light : (s : ℕ) → s < state_count matrix → state_weight matrix s ≤ 1000000
+  pub light : (s : ℕ) → s < state_count matrix → state_weight matrix s ≤ 1000000
   light s lt = elim (cases_Bool (nat_lt s (before_faults matrix))) [
     | inl healthy ↦ rw healthy valid.good
     | inr faulty ↦ (let after = ltb-false s (before_faults matrix) faulty in rw faulty (valid.weights (s - before_faults matrix) (omega arith)).1)
   ]
 
-  few : state_count matrix ≤ 4097
+  pub few : state_count matrix ≤ 4097
   few = let faults = valid.faults in elim (cases_Bool (nat_eq matrix.good 0)) [ inl none ↦ rw none (omega arith) | inr some ↦ rw some (omega arith) ]
 
   module _ (m : ℕ) (lt : m < state_count matrix) (keys : List (List ℕ)) (classes weights : List ℕ) (before : Grouped matrix m keys classes weights) where

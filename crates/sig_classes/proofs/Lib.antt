@@ -1,3 +1,7 @@
+pub mod ClassesLaws
 pub mod CountLaws
 pub mod GroupingLaws
+pub mod InstanceLaws
+pub mod PassedLaws
+pub mod PassingLaws
 pub mod RowWordsLaws

@@ -12,19 +12,15 @@ use Rattle.std.proofs.lemmas.Nat.Bits.{bit_at-zero, bit_at-lt, same_from_bits_be
 use Rattle.std.proofs.lemmas.Slice.Eq.{bytes_eq-Decides}
 use Rattle.sig_types.specs.Sets.{has_bit}
 use Rattle.seq_theory.specs.Problem.{count_up}
-use Rattle.seq_theory.specs.States.{row, same_row}
+use Rattle.seq_theory.specs.States.{System, row, same_row}
 use Rattle.seq_theory.proofs.StatesLaws.{row-from_same, same-from_row}
 use Rattle.sig_matrix.specs.declared.matrix.Matrix.{Matrix}
 use Rattle.sig_matrix.specs.Detection.{fails, before_faults, state_count, system_of}
 use Rattle.sig_matrix.specs.Valid.{IsValid}
-use Rattle.sig_classes.specs.States.{row_words, AreFourWords}
+use Rattle.sig_classes.specs.States.{row_words, row_fails, AreFourWords}
 use Rattle.sig_classes.proofs.CountLaws.{length-by_number, get_or-by_number}
 
--- the bit of a test in a row's words
-abbrev pub row_bit : List ℕ → ℕ → Bool
-row_bit words t = has_bit (get_or words (t / 64) 0) (t % 64)
-
-no_bit : (t : ℕ) → row_bit (replicate {A = ℕ} 4 0) t ≡ false
+no_bit : (t : ℕ) → row_fails (replicate {A = ℕ} 4 0) t ≡ false
 no_bit t = ap (λ w. has_bit w (t % 64)) zero_word ∙ ap (λ b. nat_eq b 1) (bit_at-zero (t % 64))
   where
     zero_word : get_or (replicate {A = ℕ} 4 0) (t / 64) 0 ≡ 0
@@ -34,11 +30,15 @@ no_bit t = ap (λ w. has_bit w (t % 64)) zero_word ∙ ap (λ b. nat_eq b 1) (bi
     ]
 
 -- a state fails the tests whose bits are in its words
-pub fails-row_bit : (matrix : Matrix) (s t : ℕ) → fails matrix s t ≡ row_bit (row_words matrix s) t
-fails-row_bit matrix s t = elim (cases_Bool (nat_lt s (before_faults matrix))) [
+pub fails-row_words : (matrix : Matrix) (s t : ℕ) → fails matrix s t ≡ row_fails (row_words matrix s) t
+fails-row_words matrix s t = elim (cases_Bool (nat_lt s (before_faults matrix))) [
   | inl healthy ↦ rw healthy (sym (no_bit t))
   | inr faulty ↦ rw faulty refl
 ]
+
+-- equal rows fail the same tests
+pub fails-from_row : (sys : System) (a b t : ℕ) → row sys a ≡ row sys b → t < sys.tests → sys.fails a t ≡ sys.fails b t
+fails-from_row sys a b t e lt = sym (get_or-by_number (sys.fails a) sys.tests t false lt) ∙ ap (λ r. get_or r t false) e ∙ get_or-by_number (sys.fails b) sys.tests t false lt
 
 bits_equal : (x y i : ℕ) → has_bit x i ≡ has_bit y i → bit_at x i ≡ bit_at y i
 bits_equal x y i e = elim (cases_Bool (has_bit x i)) [
@@ -54,7 +54,7 @@ bits_equal x y i e = elim (cases_Bool (has_bit x i)) [
 
 module _ (matrix : Matrix) (valid : IsValid matrix) where
   -- no bit past the tests
-  none_past : (s t : ℕ) → s < state_count matrix → length matrix.tests ≤ t → t < 256 → row_bit (row_words matrix s) t ≡ false
+  none_past : (s t : ℕ) → s < state_count matrix → length matrix.tests ≤ t → t < 256 → row_fails (row_words matrix s) t ≡ false
   none_past s t there past lt = elim (cases_Bool (nat_lt s (before_faults matrix))) [
     | inl healthy ↦ rw healthy (no_bit t)
     | inr faulty ↦
@@ -62,15 +62,9 @@ module _ (matrix : Matrix) (valid : IsValid matrix) where
         rw faulty (valid.nothing_else (s - before_faults matrix) t (omega arith) past lt))
   ]
 
-  fails-in_row : (a b t : ℕ) → row (system_of matrix) a ≡ row (system_of matrix) b → t < length matrix.tests → fails matrix a t ≡ fails matrix b t
-  fails-in_row a b t e lt =
-      sym (get_or-by_number (fails matrix a) (length matrix.tests) t false lt)
-      ∙ ap (λ r. get_or r t false) e
-      ∙ get_or-by_number (fails matrix b) (length matrix.tests) t false lt
-
-  bits-from_row : (a b t : ℕ) → a < state_count matrix → b < state_count matrix → row (system_of matrix) a ≡ row (system_of matrix) b → t < 256 → row_bit (row_words matrix a) t ≡ row_bit (row_words matrix b) t
+  bits-from_row : (a b t : ℕ) → a < state_count matrix → b < state_count matrix → row (system_of matrix) a ≡ row (system_of matrix) b → t < 256 → row_fails (row_words matrix a) t ≡ row_fails (row_words matrix b) t
   bits-from_row a b t la lb e lt = elim (cases_lt t (length matrix.tests)) [
-    | inl test ↦ sym (fails-row_bit matrix a t) ∙ fails-in_row a b t e test ∙ fails-row_bit matrix b t
+    | inl test ↦ sym (fails-row_words matrix a t) ∙ fails-from_row (system_of matrix) a b t e test ∙ fails-row_words matrix b t
     | inr past ↦ none_past a t la past lt ∙ sym (none_past b t lb past lt)
   ]
 
@@ -97,7 +91,7 @@ module _ (matrix : Matrix) (valid : IsValid matrix) where
       (λ t lt.
       (let long = length-by_number (fails matrix a) n in
       get_or-by_number (fails matrix a) n t false (omega arith)
-      ∙ fails-row_bit matrix a t ∙ ap (λ w. row_bit w t) e ∙ sym (fails-row_bit matrix b t)
+      ∙ fails-row_words matrix a t ∙ ap (λ w. row_fails w t) e ∙ sym (fails-row_words matrix b t)
       ∙ sym (get_or-by_number (fails matrix b) n t false (omega arith))))
     where
       n : ℕ

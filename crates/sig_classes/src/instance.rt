@@ -1,18 +1,19 @@
 //! The instance of test sequencing whose classes are the ambiguity groups. A test passes for a class as
 //! for each of its states, since these have equal rows; so only the first state of each class is looked
 //! at.
-ghost use Rattle.std.specs.Prelude.{◌<◌, ◌≤◌, length, IfOk, IfErr, OnOk};
+ghost use Rattle.std.specs.Prelude.{◌≡◌, ◌<◌, ◌≤◌, length, map, IfOk, IfErr, OnOk};
 ghost use Rattle.sig_matrix.specs.Valid.{IsValid};
 ghost use Rattle.sig_matrix.specs.Detection.{system_of};
 ghost use Rattle.seq_inst.specs.Instances.{problem_of};
 ghost use Rattle.seq_theory.specs.States.{IsOfClasses, firsts};
 ghost use Rattle.sig_classes.specs.Classes.{AreClassesOf};
 ghost use Rattle.sig_classes.specs.Refusals.{TellsManyClasses};
-ghost use Rattle.sig_classes.specs.Passing.{ArePassing, AddsClass};
+ghost use Rattle.sig_classes.specs.Passing.{ArePassing, AreEightWords, AddsClass, AddsTo};
 
 use crate::classes::Classes;
 use crate::states::row_of;
 use seq_inst::{Group, Instance};
+use sig_lines::TestLabel;
 use sig_matrix::Matrix;
 use sig_types::{Code, Counted, ModelFault, Place, Refusal};
 use std::alloc::{AllocError, Global};
@@ -37,26 +38,33 @@ pub fn instance_of(
             place: Place::Count(Counted::Classes),
         }));
     }
-    match lists_of(alloc, matrix, classes) {
+    match instance_of_few(alloc, matrix, classes) {
         Ok(inst) => Ok(inst),
         Err(_) => Err(ModelFault::OutOfMemory),
     }
 }
 
 /// The instance, where there are few enough classes.
-fn lists_of(alloc: Global, matrix: &Matrix, classes: &Classes) -> Result<Instance, AllocError>
+fn instance_of_few(
+    alloc: Global,
+    matrix: &Matrix,
+    classes: &Classes,
+) -> Result<Instance, AllocError>
     requires valid { IsValid matrix.now }
     requires classes { AreClassesOf (system_of matrix.now) classes.now }
     requires few { length (firsts (system_of matrix.now)) ≤ 512 }
     ensures { IfOk result (λ inst. IsOfClasses (system_of matrix.now) (problem_of inst)) }
 {
     let weights = Vec::from_slice(alloc, classes.weights.as_slice())?;
-    let mut costs = Vec::with_capacity(alloc, matrix.tests.len())?;
-    for test in matrix.tests.as_slice() {
-        costs.push(test.cost)?;
-    }
+    let costs = costs_of(alloc, matrix.tests.as_slice())?;
     let passes = passes_of(alloc, matrix, classes)?;
     Ok(Instance::new(weights, costs, passes))
+}
+
+fn costs_of(alloc: Global, tests: &[TestLabel]) -> Result<Vec<u32>, AllocError>
+    ensures { IfOk result (λ costs. costs.items ≡ map (λ test. test.cost) tests.now) }
+{
+    tests.iter().map(|test| test.cost).collect(alloc)
 }
 
 /// By test, the classes that don't fail it.
@@ -80,14 +88,21 @@ fn passes_of(alloc: Global, matrix: &Matrix, classes: &Classes) -> Result<Vec<Gr
 /// Adds the class to each test that its row doesn't fail.
 fn add_class(passes: &mut [Group], row: [u64; 4], class: u32)
     requires tests { length passes.old ≤ 256 }
+    requires words { AreEightWords passes.old }
     requires class { class < 512 }
     ensures { AddsClass row class passes.old passes.new }
 {
-    let word = (class / 64) as usize;
-    let bit = 1u64 << (class % 64);
     for (test, group) in passes.iter_mut().enumerate() {
         if (row[test / 64] >> (test % 64)) & 1 == 0 {
-            group.0[word] |= bit;
+            add_to(group, class);
         }
     }
+}
+
+fn add_to(group: &mut Group, class: u32)
+    requires words { length group.old.0 ≡ 8 }
+    requires class { class < 512 }
+    ensures { AddsTo class group.old group.new }
+{
+    group.0[(class / 64) as usize] |= 1 << (class % 64);
 }

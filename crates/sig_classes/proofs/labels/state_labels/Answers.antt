@@ -1,13 +1,13 @@
-use Rattle.std.proofs.Common.{◌≡◌, ℕ, ◌+◌, ◌<◌, List, [], ◌∷◌, ◌++◌, length, map, suc, arith, ap, ◌∙◌, slice_index}
-use Rattle.std.proofs.lemmas.List.{get_or_read}
+use Rattle.std.proofs.Common.{◌≡◌, ℕ, ◌+◌, List, [], ◌∷◌, ◌++◌, map, suc, arith, ap, ◌∙◌}
 use Rattle.seq_theory.specs.Problem.{count_up}
 use Rattle.seq_theory.specs.States.{class_of}
 use Rattle.sig_lines.specs.declared.labels.StateLabel.{StateLabel}
 use Rattle.sig_matrix.specs.declared.matrix.Matrix.{Matrix}
-use Rattle.sig_matrix.specs.Detection.{system_of, state_count, state_weight}
+use Rattle.sig_matrix.specs.Detection.{system_of, state_weight}
 use Rattle.sig_classes.specs.States.{state_name}
 use Rattle.sig_classes.specs.Labels.{state_label}
-use Rattle.sig_classes.proofs.CountLaws.{length-by_number, get_or-by_number, by_number_more}
+use Rattle.sig_classes.proofs.ClassesLaws.{length-classes, class-read}
+use Rattle.sig_classes.proofs.CountLaws.{by_number_more}
 use Rattle.sig_classes.proofs.labels.state_labels.Goals as goal
 
 -- one more state's label
@@ -25,18 +25,12 @@ labels_more matrix n weight class name is_weight is_name is_class before after s
     ∙ by_number_more (state_label matrix) n ∙ ap (λ k. map (state_label matrix) (count_up 0 k)) next
 
 pub index-requires : goal.index-requires
-index-requires c =
-    let long : length c.args.classes.now.class_of.items ≡ state_count c.args.matrix.now = ap length c.requires.classes.groups ∙ length-by_number (class_of (system_of c.args.matrix.now)) (state_count c.args.matrix.now) in
-    omega arith
+index-requires c = let long = length-classes (system_of c.args.matrix.now) c.args.classes.now c.requires.classes in omega arith
 
 pub loop-state-preserved : goal.loop-state-preserved
 loop-state-preserved c =
     let matrix = c.args.matrix.now in
     let n = c.loop-state.state in
-    let long : length c.args.classes.now.class_of.items ≡ state_count matrix = ap length c.requires.classes.groups ∙ length-by_number (class_of (system_of matrix)) (state_count matrix) in
-    let lt : n < state_count matrix = omega arith in
-    let class : c.index.result.now ≡ class_of (system_of matrix) n =
-    get_or_read c.args.classes.now.class_of.items n c.index.result.now (omega arith) c.index.ensures 0
-    ∙ ap (λ l. slice_index l n) c.requires.classes.groups
-    ∙ get_or-by_number (class_of (system_of matrix)) (state_count matrix) n 0 lt in
-    labels_more matrix n c.weight_of_state.result c.index.result.now c.in_ok-name_of.field-0 c.weight_of_state.ensures c.in_ok-name_of.ensures class c.loop-state.states c.push.new.self c.loop-state.invariant c.in_ok-push.ensures.ok
+    let class = class-read (system_of matrix) c.args.classes.now c.requires.classes n c.index.result.now (omega arith) c.index.ensures in
+    labels_more matrix n c.weight_of_state.result c.index.result.now c.in_ok-name_of.field-0 c.weight_of_state.ensures c.in_ok-name_of.ensures class c.loop-state.states c.push.new.self
+    c.loop-state.invariant c.in_ok-push.ensures.ok
