@@ -1,1 +1,5 @@
-
+pub mod OrderLaws
+pub mod PickedStates
+pub mod Appended
+pub mod TreeText
+pub mod ReportText

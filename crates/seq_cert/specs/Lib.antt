@@ -3,3 +3,4 @@ pub mod TreeLines
 pub mod Order
 pub mod OutcomeReport
 pub mod LabelsOf
+pub mod ByClass

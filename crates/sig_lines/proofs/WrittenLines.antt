@@ -1,11 +1,11 @@
 -- Whole lines that are written word by word. Each lemma takes the calls that write one line, from the start of a line on,
 -- for the line that `with_lines` appends; the last ones join the lines of several writers. A writer names the ones that
 -- it needs, or all of them as `writing`.
-use Rattle.std.proofs.Common.{◌≡◌, false, List, [], ◌∷◌, ◌++◌, ℕ, refl, sym, ap, ◌∙◌, append_assoc}
-use Rattle.std.specs.Prelude.{map}
+use Rattle.std.proofs.Common.{◌≡◌, false, List, [], ◌∷◌, ◌++◌, ℕ, refl, sym, ap, ◌∙◌, append_assoc, append-nil}
+use Rattle.std.specs.Prelude.{Bool, map}
 use Rattle.std.proofs.lemmas.List.{map-append}
 use Rattle.sig_lines.specs.Pieces.{spaced, ended, bytes_of}
-use Rattle.sig_lines.specs.Written.{Written, with_word, with_end, with_lines}
+use Rattle.sig_lines.specs.Written.{Written, nothing_written, with_word, with_end, with_lines}
 
 pub line_of_one : (w : Written) (a : List ℕ) → w.begun ≡ false → with_end (with_word w a) ≡ with_lines w ((a ∷ []) ∷ [])
 unfolding with_word with_end with_lines
@@ -40,5 +40,21 @@ pub lines_then : (w : Written) (xs ys : List (List (List ℕ))) → with_lines (
 unfolding with_lines
 lines_then w xs ys = ap (λ (t : List ℕ). let made : Written = record { text = t; begun = false } in made) (append_assoc w.text (bytes_of xs) (bytes_of ys) ∙ ap (λ b. w.text ++ b) (sym (bytes_of-append xs ys)))
 
--- the lemmas of this file
-pub ruleset writing = (line_of_one, line_of_two, line_of_three, line_of_four, begun_after, lines_then)
+-- what two writers append, one after the other
+pub lines_after : (w a b : Written) (xs ys : List (List (List ℕ))) → a ≡ with_lines w xs → b ≡ with_lines a ys → b ≡ with_lines w (xs ++ ys)
+lines_after w a b xs ys first second = second ∙ ap (λ v. with_lines v ys) first ∙ lines_then w xs ys
+
+-- no lines are appended
+pub no_lines : (w : Written) → w.begun ≡ false → with_lines w [] ≡ w
+unfolding with_lines
+no_lines w e =
+    let made : List ℕ → Bool → Written = λ t b. record { text = t; begun = b } in
+    ap (λ t. made t false) (append-nil w.text) ∙ ap (λ b. made w.text b) (sym e)
+
+-- the bytes of a text of lines
+pub text_of_lines : (ls : List (List (List ℕ))) → (with_lines nothing_written ls).text ≡ bytes_of ls
+unfolding with_lines
+text_of_lines ls = refl
+
+-- the lemmas that a writer of lines needs
+pub ruleset writing = (line_of_one, line_of_two, line_of_three, line_of_four, begun_after, lines_then, no_lines)

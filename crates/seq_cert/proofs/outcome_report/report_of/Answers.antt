@@ -1,0 +1,12 @@
+use Rattle.std.proofs.Common.{ap, ◌∙◌}
+use Rattle.sig_lines.specs.Written.{Written, with_lines}
+use Rattle.sig_lines.proofs.WrittenLines.{text_of_lines}
+use Rattle.seq_inst.specs.Instances.{problem_of}
+use Rattle.seq_cert.specs.Text.{report_lines}
+use Rattle.seq_cert.specs.OutcomeReport.{report_from}
+use Rattle.seq_cert.proofs.outcome_report.report_of.Goals as goal
+
+pub returns : goal.returns
+returns c =
+    let lines = report_lines (report_from (problem_of c.args.inst.now) c.args.outcome.now c.args.labels.now) in
+    c.into_bytes.ensures ∙ ap (λ (w : Written). w.text) (c.in_ok-write_report.ensures ∙ ap (λ (w : Written). with_lines w lines) c.new-out.ensures) ∙ text_of_lines lines

@@ -1,0 +1,44 @@
+use Rattle.std.proofs.Common.{◌≡◌, ◌<◌, ◌++◌, ◌∷◌, sym, ap, subst, ◌∙◌, arith, map}
+use Rattle.seq_theory.specs.Tree.{Tree, ask, AsksOnly}
+use Rattle.sig_lines.specs.Written.{Written, with_lines}
+use Rattle.sig_lines.proofs.WrittenLines.{begun_after, lines_after}
+use Rattle.seq_inst.specs.Instances.{problem_of}
+use Rattle.seq_inst.specs.Members.{members}
+use Rattle.seq_inst.specs.Shapes.{height}
+use Rattle.seq_inst.specs.Trees.{tree_of}
+use Rattle.seq_inst.specs.declared.strategy.Strategy.{Strategy}
+use Rattle.seq_cert.specs.Text.{tree_words}
+use Rattle.seq_cert.specs.TreeLines.{tree_lines}
+use Rattle.seq_cert.proofs.TreeText.{asks_only, ask_lines}
+use Rattle.seq_cert.proofs.tree.+write_tree.Goals as goal
+
+pub write_tree-requires : goal.write_tree-requires
+write_tree-requires t c =
+    let p = problem_of c.args.inst.now in
+    let a = asks_only p.tests c.in-Ask.test (tree_of c.in-Ask.pass.value) (tree_of c.in-Ask.fail.value) (tree_of c.args.strategy.now) (ap tree_of c.in-Ask.is) c.requires.there in
+    let e = ap tree_of (sym c.deref.ensures) in
+    let d = c.decreases in
+    let lower : height (tree_of c.deref.result.now) < height (tree_of c.args.strategy.now) = subst (λ (x : Tree). height x < height (tree_of c.args.strategy.now)) e a.pass_lower in
+    let begun = ap (λ (w : Written). w.begun) c.in_ok-write_ask-in-Ask.ensures ∙ begun_after _ _ in
+    (omega arith, (begun, subst (AsksOnly p.tests) e a.pass_there))
+
+pub write_tree-requires-in-Ask : goal.write_tree-requires-in-Ask
+write_tree-requires-in-Ask t c =
+    let p = problem_of c.args.inst.now in
+    let a = asks_only p.tests c.in-Ask.test (tree_of c.in-Ask.pass.value) (tree_of c.in-Ask.fail.value) (tree_of c.args.strategy.now) (ap tree_of c.in-Ask.is) c.requires.there in
+    let e = ap tree_of (sym c.deref-in-Ask.ensures) in
+    let d = c.decreases in
+    let lower : height (tree_of c.deref-in-Ask.result.now) < height (tree_of c.args.strategy.now) = subst (λ (x : Tree). height x < height (tree_of c.args.strategy.now)) e a.fail_lower in
+    let begun = ap (λ (w : Written). w.begun) c.in_ok-write_tree-in-Ask.ensures ∙ begun_after _ _ in
+    (omega arith, (begun, subst (AsksOnly p.tests) e a.fail_there))
+
+pub returns-in_ok-write_tree-in-Ask-2 : goal.returns-in_ok-write_tree-in-Ask-2
+returns-in_ok-write_tree-in-Ask-2 t c =
+    let p = problem_of c.args.inst.now in
+    let pass = tree_of c.deref.result.now in
+    let fail = tree_of c.deref-in-Ask.result.now in
+    let is : tree_of c.args.strategy.now ≡ ask c.in-Ask.test pass fail =
+    ap tree_of c.in-Ask.is ∙ ap (λ (x : Tree). ask c.in-Ask.test x (tree_of c.in-Ask.fail.value)) (ap tree_of (sym c.deref.ensures)) ∙ ap (λ (x : Tree). ask c.in-Ask.test pass x) (ap tree_of (sym c.deref-in-Ask.ensures)) in
+    let start = lines_after _ _ _ _ _ c.in_ok-write_ask-in-Ask.ensures c.in_ok-write_tree-in-Ask.ensures in
+    let all = lines_after _ _ _ _ _ start c.in_ok-write_tree-in-Ask-2.ensures in
+    all ∙ ap (with_lines c.args.out.now) (ask_lines p c.in-Ask.test pass fail (tree_of c.args.strategy.now) (members c.args.group.now) (members c.part.result) (members c.part-in-Ask.result) is c.part.ensures c.part-in-Ask.ensures)

@@ -1,0 +1,70 @@
+//! The text of an outcome's report, written line by line without a report between.
+ghost use Rattle.std.specs.Prelude.{◌≡◌, ◌≤◌, ◌∷◌, [], codes, false, OnOk, IfOk, IsNone};
+ghost use Rattle.sig_lines.specs.Written.{with_lines};
+ghost use Rattle.seq_theory.specs.Tree.{AsksOnly};
+ghost use Rattle.seq_inst.specs.Instances.{problem_of};
+ghost use Rattle.seq_inst.specs.Trees.{tree_of};
+ghost use Rattle.seq_cert.specs.LabelsOf.{AreLabelsOf};
+ghost use Rattle.seq_cert.specs.Text.{report_lines, report_bytes};
+ghost use Rattle.seq_cert.specs.OutcomeReport.{report_from};
+
+use crate::classes::write_classes;
+use crate::head::write_head;
+use crate::test_lines::write_tests;
+use crate::tree::write_tree;
+use seq_inst::{Instance, Outcome, root};
+use sig_lines::{Labels, Lines};
+use std::alloc::{AllocError, Global};
+
+#[tactic(auto, using(sig_lines::proofs::WrittenLines::writing))]
+fn write_end(out: &mut Lines) -> Result<(), AllocError>
+    requires { out.old.begun ≡ false }
+    ensures { OnOk result (out.new ≡ with_lines out.old ((codes "end" ∷ []) ∷ [])) }
+{
+    out.word("end")?;
+    out.end_line()
+}
+
+/// Writes all lines.
+#[tactic(auto, using(sig_lines::proofs::WrittenLines::writing))]
+fn write_report(
+    alloc: Global,
+    out: &mut Lines,
+    inst: &Instance,
+    outcome: &Outcome,
+    labels: &Labels,
+) -> Result<(), AllocError>
+    requires begun { out.old.begun ≡ false }
+    requires labels { AreLabelsOf (problem_of inst.now) labels.now }
+    requires there { AsksOnly (problem_of inst.now).tests (tree_of outcome.now.strategy) }
+    requires proper { outcome.now.low ≤ outcome.now.cost }
+    requires no_groups { outcome.now.rows.items ≡ [] }
+    requires none_missed { IsNone outcome.now.missed }
+    ensures { OnOk result (out.new ≡ with_lines out.old (report_lines (report_from (problem_of inst.now) outcome.now labels.now))) }
+{
+    write_head(out, inst, outcome, labels)?;
+    write_classes(alloc, out, inst, labels.states.as_slice())?;
+    write_tests(out, labels.tests.as_slice())?;
+    write_tree(out, inst, &outcome.strategy, &root(inst))?;
+    write_end(out)?;
+    Ok(())
+}
+
+/// The text of the outcome's report. The work is linear in what is written.
+pub fn report_of(
+    alloc: Global,
+    inst: &Instance,
+    outcome: &Outcome,
+    labels: &Labels,
+) -> Result<Vec<u8>, AllocError>
+    requires labels { AreLabelsOf (problem_of inst.now) labels.now }
+    requires there { AsksOnly (problem_of inst.now).tests (tree_of outcome.now.strategy) }
+    requires proper { outcome.now.low ≤ outcome.now.cost }
+    requires no_groups { outcome.now.rows.items ≡ [] }
+    requires none_missed { IsNone outcome.now.missed }
+    ensures { IfOk result (λ v. v.items ≡ report_bytes (report_from (problem_of inst.now) outcome.now labels.now)) }
+{
+    let mut out = Lines::new(alloc);
+    write_report(alloc, &mut out, inst, outcome, labels)?;
+    Ok(out.into_bytes())
+}
