@@ -163,14 +163,6 @@ module _ (matrix : Matrix) (valid : IsValid matrix) where
   abbrev sys : System
   sys = system_of matrix
 
-  pub grouped-none : (keys : List (List ℕ)) (classes weights : List ℕ) → keys ≡ [] → classes ≡ [] → weights ≡ [] → Grouped matrix 0 keys classes weights
-  grouped-none keys classes weights k c w = record {
-    words = λ s lt. absurd (let h : ⊥ = omega arith in h);
-    known = k;
-    groups = c;
-    summed = record { count = ap length w; sums = λ d lt. absurd (let l = ap length w in let h : ⊥ = omega arith in h) };
-  }
-
   pub light : (s : ℕ) → s < state_count matrix → state_weight matrix s ≤ 1000000
   light s lt = elim (cases_Bool (nat_lt s (before_faults matrix))) [
     | inl healthy ↦ rw healthy valid.good

@@ -67,14 +67,6 @@ pub record AddedBelow (row : List ℕ) (class n : ℕ) (old new : List Group) : 
   pub added : (t c : ℕ) → t < n → c < 512 → has_class (get_or new t no_class) c ≡ (has_class (get_or old t no_class) c || (nat_eq c class && not (row_fails row t)))
   pub same : (t : ℕ) → n ≤ t → get_or new t no_class ≡ get_or old t no_class
 
-pub added_none : (row : List ℕ) (class : ℕ) (passes : List Group) → AreEightWords passes → AddedBelow row class 0 passes passes
-added_none row class passes eight = record {
-  as_many = refl;
-  words = eight;
-  added = λ t c lt l. absurd (let h : ⊥ = omega arith in h);
-  same = λ t le. refl;
-}
-
 -- a test that the row fails stays
 pub added_fails : (row : List ℕ) (class n : ℕ) (old passes : List Group) → AddedBelow row class n old passes → row_fails row n ≡ true → AddedBelow row class (n + 1) old passes
 added_fails row class n old passes before fails = record {
