@@ -1,18 +1,21 @@
 -- The matrix of the tests is valid.
-use Rattle.std.proofs.Common.{◌≡◌, ℕ, zero, suc, ◌<◌, ◌≤◌, [], ◌∷◌, get_or, replicate, refl, arith, subst, sym}
+use Rattle.std.proofs.Common.{◌≡◌, ℕ, zero, suc, ◌<◌, ◌≤◌, List, [], ◌∷◌, get_or, refl, arith, subst, sym, ap, ◌∙◌}
 use Rattle.std.specs.Prelude.{Bool, true, false, codes, nat_le, ◌&&◌}
 use Rattle.std.proofs.lemmas.Bool.{agree_below, agree_below_at, le-leb}
 use Rattle.sig_lines.specs.declared.labels.TestLabel.{TestLabel}
+use Rattle.sig_matrix.specs.declared.matrix.FaultRow.{FaultRow}
 use Rattle.sig_matrix.specs.declared.matrix.Matrix.{Matrix}
 use Rattle.sig_matrix.specs.Detection.{detects, no_row, no_label}
 use Rattle.sig_matrix.specs.Valid.{IsValid}
 
+abbrev pub seen_fault : FaultRow
+seen_fault = record { weight = 3; label = codes "A.f"; row = 1 ∷ 0 ∷ 0 ∷ 0 ∷ [] }
+
+abbrev pub unseen_fault : FaultRow
+unseen_fault = record { weight = 4; label = codes "B.f"; row = 0 ∷ 0 ∷ 0 ∷ 0 ∷ [] }
+
 abbrev pub shown : Matrix
-shown = record {
-  good = 2;
-  faults = record { weight = 3; label = codes "A.f"; row = 1 ∷ 0 ∷ 0 ∷ 0 ∷ [] } ∷ record { weight = 4; label = codes "B.f"; row = replicate {A = ℕ} 4 0 } ∷ [];
-  tests = record { cost = 1; label = codes "X/t" } ∷ [];
-}
+shown = record { good = 2; faults = seen_fault ∷ unseen_fault ∷ []; tests = record { cost = 1; label = codes "X/t" } ∷ [] }
 
 both : (x y : Bool) → x ≡ true → (x && y) ≡ false → y ≡ false
 both true y e f = f
@@ -43,6 +46,9 @@ IsValid-shown = record {
   nothing_else = nothing_else;
 }
 
--- the same for a matrix that a test has made
-pub IsValid-as_shown : (matrix : Matrix) → matrix ≡ shown → IsValid matrix
-IsValid-as_shown matrix e = subst IsValid (sym e) IsValid-shown
+-- the same for one that a test has made of its parts
+pub IsValid-made : (seen unseen : FaultRow) (label : List ℕ) (faults : List FaultRow) (tests : List TestLabel) → seen ≡ seen_fault → unseen ≡ unseen_fault → label ≡ codes "X/t"
+    → faults ≡ seen ∷ unseen ∷ [] → tests ≡ record { cost = 1; label = label } ∷ [] → IsValid (record { good = 2; faults = faults; tests = tests })
+IsValid-made seen unseen label faults tests is_seen is_unseen is_label are_faults are_tests =
+    subst (λ l. IsValid (record { good = 2; faults = l; tests = tests })) (sym (are_faults ∙ ap (λ f. f ∷ unseen ∷ []) is_seen ∙ ap (λ f. seen_fault ∷ f ∷ []) is_unseen))
+    (subst (λ l. IsValid (record { good = 2; faults = seen_fault ∷ unseen_fault ∷ []; tests = l })) (sym (are_tests ∙ ap (λ t. record { cost = 1; label = t } ∷ []) is_label)) IsValid-shown)

@@ -1,6 +1,6 @@
 //! Three states of which a test tells one from the others: no fault with weight 2, A with weight 3,
 //! which the test sees, and B with weight 4, which it doesn't see.
-ghost use Rattle.std.specs.Prelude.{IfOk};
+ghost use Rattle.std.specs.Prelude.{◌≡◌, [], ◌∷◌, IfOk};
 ghost use Rattle.sig_matrix.specs.Valid.{IsValid};
 
 use crate::{classes_of, instance_of, labels_of};
@@ -10,29 +10,26 @@ use sig_types::{List, Text};
 use std::alloc::{AllocError, Global};
 use std::test::Fail;
 
+fn fault(alloc: Global, weight: u32, label: &str, word: u64) -> Result<FaultRow, AllocError>
+    ensures { IfOk result (λ fault. fault ≡ record { weight = weight; label = label.now; row = word ∷ 0 ∷ 0 ∷ 0 ∷ [] }) }
+{
+    Ok(FaultRow {
+        weight,
+        label: Text::of(alloc, label)?,
+        row: [word, 0, 0, 0],
+    })
+}
+
 fn unseen_fault(alloc: Global) -> Result<Matrix, AllocError>
     ensures { IfOk result (λ matrix. IsValid matrix) }
 {
-    let mut faults = List::new(alloc);
-    faults.push(FaultRow {
-        weight: 3,
-        label: Text::of(alloc, "A.f")?,
-        row: [1, 0, 0, 0],
-    })?;
-    faults.push(FaultRow {
-        weight: 4,
-        label: Text::of(alloc, "B.f")?,
-        row: [0; 4],
-    })?;
-    let mut tests = List::new(alloc);
-    tests.push(TestLabel {
-        cost: 1,
-        label: Text::of(alloc, "X/t")?,
-    })?;
+    let seen = fault(alloc, 3, "A.f", 1)?;
+    let unseen = fault(alloc, 4, "B.f", 0)?;
+    let label = Text::of(alloc, "X/t")?;
     Ok(Matrix {
         good: 2,
-        faults,
-        tests,
+        faults: List::from_vec(vec![in alloc; seen, unseen]?),
+        tests: List::from_vec(vec![in alloc; TestLabel { cost: 1, label }]?),
     })
 }
 
