@@ -3,7 +3,7 @@
 -- The map holds the words of the first states so far, and the weights are the sums over the states so far. The place of
 -- a state's words in the map is its group: one that is there gains the state's weight, and a new one begins with it.
 use Rattle.std.proofs.Common.{◌≡◌, ℕ, zero, suc, ◌+◌, ◌-◌, ◌*◌, ◌^◌, ◌<◌, ◌≤◌, List, [], ◌∷◌, ◌++◌, length, map, set, get_or, refl, sym, ap, ◌∙◌, arith, inl, inr, subst}
-use Rattle.std.specs.Prelude.{Bool, true, false, cond, nat_eq, nat_lt, filter}
+use Rattle.std.specs.Prelude.{true, false, cond, nat_eq, nat_lt, filter}
 use Rattle.std.specs.List.{position_or_len}
 use Rattle.std.specs.Str.{bytes_eq}
 use Rattle.std.proofs.lemmas.Bool.{cases_Bool, cases_lt, cases_eq, eqb-true, eqb-false, eq-eqb, ne_eqb, lt-ltb, le-ltb, ltb-false}
@@ -13,7 +13,7 @@ use Rattle.indexmap.specs.IndexSet.{insert_key}
 use Rattle.seq_theory.specs.Problem.{count_up, weight_of}
 use Rattle.seq_theory.specs.States.{System, same_row, is_first, first_alike, class_of, firsts, state_problem}
 use Rattle.seq_theory.proofs.StatesLaws.{count_up-last, begun, begun-yes, begun-no, begun-below, class_of-begun, first_alike-is_first}
-use Rattle.seq_theory.proofs.NumberingLaws.{seen, first_alike-le, number-class, seen-more}
+use Rattle.seq_theory.proofs.NumberingLaws.{first_alike-le, number-class, seen-more}
 use Rattle.sig_matrix.specs.declared.matrix.Matrix.{Matrix}
 use Rattle.sig_matrix.specs.Detection.{before_faults, state_count, state_weight, system_of}
 use Rattle.sig_matrix.specs.Valid.{IsValid}

@@ -2,21 +2,18 @@
 --
 -- The first state of a class puts the class to the tests that it doesn't fail, and later ones have its row. So each state
 -- so far is told by its class, and no class is there that hasn't begun.
-use Rattle.std.proofs.Common.{◌≡◌, ℕ, suc, ◌+◌, ◌/◌, ◌%◌, ◌<◌, ◌≤◌, List, length, get_or, replicate, refl, sym, ap, ◌∙◌, arith, inl, inr, subst}
+use Rattle.std.proofs.Common.{◌≡◌, ℕ, suc, ◌+◌, ◌<◌, ◌≤◌, List, length, get_or, refl, sym, ap, ◌∙◌, arith, inl, inr, subst}
 use Rattle.std.specs.Prelude.{Bool, true, false, not, ◌&&◌, ◌||◌, nat_eq}
-use Rattle.std.specs.Int.{bit_at}
-use Rattle.std.proofs.lemmas.Bool.{cases_Bool, cases_lt, cases_eq, eqb-true, eqb-false, eq-eqb, ne_eqb, or_cases, and_parts, true≢false}
-use Rattle.std.proofs.lemmas.List.{get_or-replicate, length-replicate}
-use Rattle.std.proofs.lemmas.Nat.Bits.{bit_at-zero}
+use Rattle.std.proofs.lemmas.Bool.{cases_Bool, cases_lt, eqb-true, eqb-false, eq-eqb, ne_eqb, or_cases, and_parts}
 use Rattle.seq_theory.specs.States.{System, row, is_first, first_alike, class_of, firsts}
 use Rattle.seq_theory.proofs.StatesLaws.{begun, begun-yes, begun-no, begun-below, class_of-begun, class_of-same, class_of-there, first_alike-is_first, first_alike-row}
 use Rattle.seq_theory.proofs.NumberingLaws.{first_alike-le}
 use Rattle.seq_inst.specs.declared.group.Group.{Group}
 use Rattle.seq_inst.specs.Members.{has_class}
 use Rattle.seq_inst.specs.Valid.{no_class}
-use Rattle.sig_classes.specs.Passing.{ArePassing, AddsClass, AreEightWords}
+use Rattle.sig_classes.specs.Passing.{AddsClass, AreEightWords}
 use Rattle.sig_classes.specs.States.{row_fails}
-use Rattle.sig_classes.proofs.GroupingLaws.{begun-le, class_of-lt}
+use Rattle.sig_classes.proofs.GroupingLaws.{class_of-lt}
 use Rattle.sig_classes.proofs.RowWordsLaws.{fails-from_row}
 
 module _ (sys : System) where

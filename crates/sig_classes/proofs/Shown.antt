@@ -1,7 +1,7 @@
 -- The matrix of the tests is valid.
 use Rattle.std.proofs.Common.{◌≡◌, ℕ, zero, suc, ◌<◌, ◌≤◌, List, [], ◌∷◌, get_or, refl, arith, subst, sym, ap, ◌∙◌}
 use Rattle.std.specs.Prelude.{Bool, true, false, codes, nat_le, ◌&&◌}
-use Rattle.std.proofs.lemmas.Bool.{agree_below, agree_below_at, le-leb}
+use Rattle.std.proofs.lemmas.Bool.{agree_below_at, le-leb}
 use Rattle.sig_lines.specs.declared.labels.TestLabel.{TestLabel}
 use Rattle.sig_matrix.specs.declared.matrix.FaultRow.{FaultRow}
 use Rattle.sig_matrix.specs.declared.matrix.Matrix.{Matrix}
