@@ -3,7 +3,7 @@
 -- The map holds the words of the first states so far, and the weights are the sums over the states so far. The place of
 -- a state's words in the map is its group: one that is there gains the state's weight, and a new one begins with it.
 use Rattle.std.proofs.Common.{◌≡◌, ℕ, zero, suc, ◌+◌, ◌-◌, ◌*◌, ◌^◌, ◌<◌, ◌≤◌, List, [], ◌∷◌, ◌++◌, length, map, set, get_or, refl, sym, ap, ◌∙◌, arith, inl, inr, subst}
-use Rattle.std.specs.Prelude.{Bool, true, false, cond, nat_eq, nat_lt, filter}
+use Rattle.std.specs.Prelude.{true, false, cond, nat_eq, nat_lt, filter}
 use Rattle.std.specs.List.{position_or_len}
 use Rattle.std.specs.Str.{bytes_eq}
 use Rattle.std.proofs.lemmas.Bool.{cases_Bool, cases_lt, cases_eq, eqb-true, eqb-false, eq-eqb, ne_eqb, lt-ltb, le-ltb, ltb-false}
@@ -13,7 +13,7 @@ use Rattle.indexmap.specs.IndexSet.{insert_key}
 use Rattle.seq_theory.specs.Problem.{count_up, weight_of}
 use Rattle.seq_theory.specs.States.{System, same_row, is_first, first_alike, class_of, firsts, state_problem}
 use Rattle.seq_theory.proofs.StatesLaws.{count_up-last, begun, begun-yes, begun-no, begun-below, class_of-begun, first_alike-is_first}
-use Rattle.seq_theory.proofs.NumberingLaws.{seen, first_alike-le, number-class, seen-more}
+use Rattle.seq_theory.proofs.NumberingLaws.{first_alike-le, number-class, seen-more}
 use Rattle.sig_matrix.specs.declared.matrix.Matrix.{Matrix}
 use Rattle.sig_matrix.specs.Detection.{before_faults, state_count, state_weight, system_of}
 use Rattle.sig_matrix.specs.Valid.{IsValid}
@@ -162,14 +162,6 @@ pub record Grouped (matrix : Matrix) (m : ℕ) (keys : List (List ℕ)) (classes
 module _ (matrix : Matrix) (valid : IsValid matrix) where
   abbrev sys : System
   sys = system_of matrix
-
-  pub grouped-none : (keys : List (List ℕ)) (classes weights : List ℕ) → keys ≡ [] → classes ≡ [] → weights ≡ [] → Grouped matrix 0 keys classes weights
-  grouped-none keys classes weights k c w = record {
-    words = λ s lt. absurd (let h : ⊥ = omega arith in h);
-    known = k;
-    groups = c;
-    summed = record { count = ap length w; sums = λ d lt. absurd (let l = ap length w in let h : ⊥ = omega arith in h) };
-  }
 
   pub light : (s : ℕ) → s < state_count matrix → state_weight matrix s ≤ 1000000
   light s lt = elim (cases_Bool (nat_lt s (before_faults matrix))) [

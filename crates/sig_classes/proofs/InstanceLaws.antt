@@ -6,9 +6,8 @@ use Rattle.std.proofs.Common.{◌≡◌, ℕ, zero, suc, ◌+◌, ◌-◌, ◌*�
 use Rattle.std.specs.Prelude.{nat_eq, nat_lt}
 use Rattle.std.proofs.lemmas.Bool.{cases_Bool, ltb-true, ltb-false, eqb-false}
 use Rattle.std.proofs.lemmas.List.{length-map, get_or-map}
-use Rattle.seq_theory.specs.Problem.{Problem, count_up, weight_of, all_classes}
+use Rattle.seq_theory.specs.Problem.{Problem, count_up, weight_of}
 use Rattle.seq_theory.specs.States.{System, firsts, state_problem, IsOfClasses}
-use Rattle.seq_theory.specs.PassageLaws.{ClassesStand}
 use Rattle.seq_theory.proofs.PassageProofs.{classes_hold}
 use Rattle.seq_theory.proofs.StatesLaws.{class_of-there}
 use Rattle.seq_inst.specs.declared.group.Group.{Group}

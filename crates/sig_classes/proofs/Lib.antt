@@ -5,3 +5,4 @@ pub mod InstanceLaws
 pub mod PassedLaws
 pub mod PassingLaws
 pub mod RowWordsLaws
+pub mod Shown

@@ -2,21 +2,18 @@
 --
 -- The first state of a class puts the class to the tests that it doesn't fail, and later ones have its row. So each state
 -- so far is told by its class, and no class is there that hasn't begun.
-use Rattle.std.proofs.Common.{◌≡◌, ℕ, suc, ◌+◌, ◌/◌, ◌%◌, ◌<◌, ◌≤◌, List, length, get_or, replicate, refl, sym, ap, ◌∙◌, arith, inl, inr, subst}
+use Rattle.std.proofs.Common.{◌≡◌, ℕ, suc, ◌+◌, ◌<◌, ◌≤◌, List, length, get_or, refl, sym, ap, ◌∙◌, arith, inl, inr, subst}
 use Rattle.std.specs.Prelude.{Bool, true, false, not, ◌&&◌, ◌||◌, nat_eq}
-use Rattle.std.specs.Int.{bit_at}
-use Rattle.std.proofs.lemmas.Bool.{cases_Bool, cases_lt, cases_eq, eqb-true, eqb-false, eq-eqb, ne_eqb, or_cases, and_parts, true≢false}
-use Rattle.std.proofs.lemmas.List.{get_or-replicate, length-replicate}
-use Rattle.std.proofs.lemmas.Nat.Bits.{bit_at-zero}
+use Rattle.std.proofs.lemmas.Bool.{cases_Bool, cases_lt, eqb-true, eqb-false, eq-eqb, ne_eqb, or_cases, and_parts}
 use Rattle.seq_theory.specs.States.{System, row, is_first, first_alike, class_of, firsts}
 use Rattle.seq_theory.proofs.StatesLaws.{begun, begun-yes, begun-no, begun-below, class_of-begun, class_of-same, class_of-there, first_alike-is_first, first_alike-row}
 use Rattle.seq_theory.proofs.NumberingLaws.{first_alike-le}
 use Rattle.seq_inst.specs.declared.group.Group.{Group}
 use Rattle.seq_inst.specs.Members.{has_class}
 use Rattle.seq_inst.specs.Valid.{no_class}
-use Rattle.sig_classes.specs.Passing.{ArePassing, AddsClass, AreEightWords}
+use Rattle.sig_classes.specs.Passing.{AddsClass, AreEightWords}
 use Rattle.sig_classes.specs.States.{row_fails}
-use Rattle.sig_classes.proofs.GroupingLaws.{begun-le, class_of-lt}
+use Rattle.sig_classes.proofs.GroupingLaws.{class_of-lt}
 use Rattle.sig_classes.proofs.RowWordsLaws.{fails-from_row}
 
 module _ (sys : System) where
@@ -45,24 +42,6 @@ module _ (sys : System) where
     pub words : AreEightWords passes
     pub passing : (t s : ℕ) → t < sys.tests → s < m → has_class (get_or passes t no_class) (class_of sys s) ≡ not (sys.fails s t)
     pub within : (t c : ℕ) → t < sys.tests → c < 512 → has_class (get_or passes t no_class) c ≡ true → c < found
-
-  pub passed-none : (passes : List Group) → passes ≡ replicate sys.tests (record { 0 = replicate {A = ℕ} 8 0 }) → Passed 0 0 passes
-  passed-none passes e = record {
-    begins = refl;
-    as_many = long;
-    words = λ t lt. (let many = long in ap (λ g. length g.0) (at t (omega arith)));
-    passing = λ t s lt below. absurd (let h : ⊥ = omega arith in h);
-    within = λ t c lt l y. absurd (true≢false (sym y ∙ ap (λ g. has_class g c) (at t lt) ∙ none c l));
-  }
-    where
-      long : length passes ≡ sys.tests
-      long = ap length e ∙ length-replicate sys.tests (record { 0 = replicate {A = ℕ} 8 0 })
-
-      at : (t : ℕ) → t < sys.tests → get_or passes t no_class ≡ record { 0 = replicate {A = ℕ} 8 0 }
-      at t lt = ap (λ l. get_or l t no_class) e ∙ get_or-replicate sys.tests t (record { 0 = replicate {A = ℕ} 8 0 }) no_class lt
-
-      none : (c : ℕ) → c < 512 → has_class (record { 0 = replicate {A = ℕ} 8 0 }) c ≡ false
-      none c l = ap (λ w. nat_eq (bit_at w (c % 64)) 1) (get_or-replicate 8 (c / 64) 0 0 (omega arith)) ∙ ap (λ b. nat_eq b 1) (bit_at-zero (c % 64))
 
   -- the first state of a class puts the class to its tests
   pub passed-new : (m found : ℕ) (passes new : List Group) (row : List ℕ) → m < sys.states → length (firsts sys) ≤ 512 → ((t : ℕ) → sys.fails m t ≡ row_fails row t)
@@ -149,10 +128,3 @@ module _ (sys : System) where
           ap (has_class (get_or passes t no_class)) (class_of-same sys m first (sym (eqb-true (first_alike sys first) first (first_alike-is_first sys m lt))))
           ∙ before.passing t first l earlier
           ∙ ap not (fails-from_row sys first m t (first_alike-row sys m lt) l)
-
-  pub passed-all : (m found : ℕ) (passes : List Group) → m ≡ sys.states → Passed m found passes → ArePassing sys passes
-  passed-all m found passes e whole = record {
-    as_many = whole.as_many;
-    passing = λ t s lt ls. whole.passing t s lt (omega arith);
-    within = λ t c lt l y. (let h = whole.within t c lt l y in let n = whole.begins ∙ ap (begun sys) e in omega arith);
-  }

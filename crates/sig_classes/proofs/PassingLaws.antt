@@ -2,16 +2,16 @@
 --
 -- The first state of a class puts the class to the tests that it doesn't fail. The later ones of that class have the same
 -- row, so each state so far stands for its class.
-use Rattle.std.proofs.Common.{◌≡◌, ℕ, suc, ◌+◌, ◌*◌, ◌/◌, ◌%◌, ◌^◌, ◌<◌, ◌≤◌, List, length, set, get_or, bit_and, bit_or, refl, sym, ap, ◌∙◌, arith, inl, inr, subst, w64}
+use Rattle.std.proofs.Common.{◌≡◌, ℕ, ◌+◌, ◌*◌, ◌/◌, ◌%◌, ◌^◌, ◌<◌, ◌≤◌, List, length, set, get_or, bit_and, bit_or, refl, sym, ap, ◌∙◌, arith, inl, inr, subst, w64}
 use Rattle.std.specs.Prelude.{Bool, true, false, not, ◌&&◌, ◌||◌, nat_eq}
 use Rattle.std.specs.Int.{bit_at}
-use Rattle.std.proofs.lemmas.Bool.{cases_Bool, cases_lt, cases_eq, eq-eqb, ne_eqb}
+use Rattle.std.proofs.lemmas.Bool.{cases_lt, cases_eq, eq-eqb, ne_eqb}
 use Rattle.std.proofs.lemmas.List.{get_or-set_same, get_or-set_other, length-set}
 use Rattle.std.proofs.lemmas.Nat.Bits.{bit_at-lt, bit_at_set_same, bit_at_set_other, shr_and_one}
 use Rattle.seq_inst.specs.declared.group.Group.{Group}
 use Rattle.seq_inst.specs.Members.{has_class}
 use Rattle.seq_inst.specs.Valid.{no_class}
-use Rattle.sig_classes.specs.Passing.{AddsClass, AddsTo, AreEightWords}
+use Rattle.sig_classes.specs.Passing.{AddsTo, AreEightWords}
 use Rattle.sig_classes.specs.States.{row_fails}
 
 or-false : (b : Bool) → (b || false) ≡ b
@@ -66,14 +66,6 @@ pub record AddedBelow (row : List ℕ) (class n : ℕ) (old new : List Group) : 
   pub words : AreEightWords new
   pub added : (t c : ℕ) → t < n → c < 512 → has_class (get_or new t no_class) c ≡ (has_class (get_or old t no_class) c || (nat_eq c class && not (row_fails row t)))
   pub same : (t : ℕ) → n ≤ t → get_or new t no_class ≡ get_or old t no_class
-
-pub added_none : (row : List ℕ) (class : ℕ) (passes : List Group) → AreEightWords passes → AddedBelow row class 0 passes passes
-added_none row class passes eight = record {
-  as_many = refl;
-  words = eight;
-  added = λ t c lt l. absurd (let h : ⊥ = omega arith in h);
-  same = λ t le. refl;
-}
 
 -- a test that the row fails stays
 pub added_fails : (row : List ℕ) (class n : ℕ) (old passes : List Group) → AddedBelow row class n old passes → row_fails row n ≡ true → AddedBelow row class (n + 1) old passes

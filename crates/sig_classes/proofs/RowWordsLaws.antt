@@ -2,16 +2,15 @@
 --
 -- A test below 256 is one bit of the words, and the bits past the tests are 0 in all states. So equal rows have equal
 -- bits, and words of 64 bits with equal bits are equal.
-use Rattle.std.proofs.Common.{◌≡◌, ◌↔◌, ℕ, ◌+◌, ◌-◌, ◌*◌, ◌/◌, ◌%◌, ◌^◌, ◌<◌, ◌≤◌, List, length, get_or, replicate, refl, sym, ap, ◌∙◌, arith, inl, inr}
+use Rattle.std.proofs.Common.{◌≡◌, ℕ, ◌+◌, ◌-◌, ◌*◌, ◌/◌, ◌%◌, ◌<◌, ◌≤◌, length, get_or, replicate, refl, sym, ap, ◌∙◌, arith, inl, inr}
 use Rattle.std.specs.Prelude.{Bool, true, false, nat_lt, nat_eq}
 use Rattle.std.specs.Int.{bit_at}
 use Rattle.std.specs.Str.{bytes_eq}
-use Rattle.std.proofs.lemmas.Bool.{cases_Bool, cases_lt, eqb-true, ltb-false, ltb-true, true≢false}
-use Rattle.std.proofs.lemmas.List.{ext_get_or, get_or-replicate, get_or_past, length-replicate}
+use Rattle.std.proofs.lemmas.Bool.{cases_Bool, cases_lt, eqb-true, ltb-false, true≢false}
+use Rattle.std.proofs.lemmas.List.{ext_get_or, get_or-replicate, get_or_past}
 use Rattle.std.proofs.lemmas.Nat.Bits.{bit_at-zero, bit_at-lt, same_from_bits_below}
 use Rattle.std.proofs.lemmas.Slice.Eq.{bytes_eq-Decides}
 use Rattle.sig_types.specs.Sets.{has_bit}
-use Rattle.seq_theory.specs.Problem.{count_up}
 use Rattle.seq_theory.specs.States.{System, row, same_row}
 use Rattle.seq_theory.proofs.StatesLaws.{row-from_same, same-from_row}
 use Rattle.sig_matrix.specs.declared.matrix.Matrix.{Matrix}

@@ -2,7 +2,6 @@
 use Rattle.std.specs.Prelude.{◌≡◌, ℕ, ◌<◌, ◌≤◌}
 use Rattle.sig_types.specs.declared.refusals.ModelFault.{ModelFault}
 use Rattle.sig_types.specs.declared.refusals.ModelFault.TheVariants.{Refused, OutOfMemory}
-use Rattle.sig_types.specs.declared.refusals.Refusal.{Refusal}
 use Rattle.sig_types.specs.declared.refusals.Code.TheVariants.{M13}
 use Rattle.sig_types.specs.declared.refusals.Place.TheVariants.{Count}
 use Rattle.sig_types.specs.declared.refusals.Counted.TheVariants.{Classes as ManyClasses}

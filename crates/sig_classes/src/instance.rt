@@ -12,6 +12,10 @@ ghost use Rattle.sig_classes.specs.Passing.{ArePassing, AreEightWords, AddsClass
 
 use crate::classes::Classes;
 use crate::states::row_of;
+
+/// An instance has at most so many classes.
+const MOST_CLASSES: usize = 512;
+
 use seq_inst::{Group, Instance};
 use sig_lines::TestLabel;
 use sig_matrix::Matrix;
@@ -32,7 +36,7 @@ pub fn instance_of(
     ensures few { OnOk result (length (firsts (system_of matrix.now)) ≤ 512) }
     ensures many { IfErr result (TellsManyClasses (length (firsts (system_of matrix.now)))) }
 {
-    if classes.weights.len() > 512 {
+    if classes.weights.len() > MOST_CLASSES {
         return Err(ModelFault::Refused(Refusal {
             code: Code::M13,
             place: Place::Count(Counted::Classes),

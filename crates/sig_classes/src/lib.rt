@@ -12,3 +12,6 @@ mod states;
 pub use classes::{Classes, classes_of};
 pub use instance::instance_of;
 pub use labels::labels_of;
+
+#[cfg(test)]
+mod tests;

@@ -1,5 +1,4 @@
-use Rattle.std.proofs.Common.{◌≡◌, ◌≤◌, arith}
-use Rattle.sig_matrix.specs.Detection.{state_count}
+use Rattle.std.proofs.Common.{arith}
 use Rattle.sig_classes.proofs.GroupingLaws.{grouped-few, grouped-room, grouped-more, grouped-all}
 use Rattle.sig_classes.proofs.classes.classes_of.Goals as goal
 

@@ -1,5 +1,3 @@
-use Rattle.std.proofs.Common.{take}
-use Rattle.sig_classes.specs.Passing.{AddsClass}
 use Rattle.sig_classes.proofs.PassingLaws.{AddedBelow}
 use Rattle.sig_classes.proofs.instance.add_class.Given as goal
 

@@ -1,4 +1,4 @@
-use Rattle.std.proofs.Common.{◌≡◌, ◌∙◌, map, ap, sym, subst}
+use Rattle.std.proofs.Common.{◌∙◌, map, ap, sym, subst}
 use Rattle.sig_lines.specs.declared.labels.TestLabel.{TestLabel}
 use Rattle.sig_matrix.specs.Detection.{system_of}
 use Rattle.sig_classes.specs.Passing.{ArePassing}
