@@ -25,7 +25,6 @@ use Rattle.seq_inst.specs.Instances.{problem_of}
 use Rattle.seq_inst.proofs.MembersLaws.{length-members_below, count_up-more}
 use Rattle.seq_inst.proofs.PartsLaws.{members-within}
 use Rattle.seq_inst.proofs.SolveLaws.{light}
-
 use Rattle.seq_huff.proofs.Written.{passing-all, length-passing}
 
 sum-weights : (p : Problem) (xs : List ℕ) → sum (map p.weight xs) ≡ weight_of p xs
@@ -48,7 +47,6 @@ weights-fit inst g out within e =
     let s2 = light inst g within in
     let f = product-le (length out) (sum out) 512 4097000000 (omega arith) (omega arith) in
     omega arith
-
 
 first_le : (k : ℕ) (xs : List ℕ) → sum_first k xs ≤ sum xs
 first_le zero xs = omega arith

@@ -99,4 +99,3 @@ module _ (inst : Instance) (g : Group) where
   goal_weights-members within =
       let e = members-within (problem_of inst) g inst.valid.few within in
       subst (λ xs. goal_weights (problem_of inst) xs ≡ map (problem_of inst).weight xs) e (goal_weights-filter (has_class g))
-

@@ -1,6 +1,7 @@
 -- The greedy strategy asks only tests that split what reaches them, so it is small.
 use Rattle.std.proofs.Common.{◌≡◌, ℕ, zero, suc, ◌<◌, ◌≤◌, List, [], ◌∷◌, length, refl, arith, subst, ap, sym, ◌∙◌, inl, inr}
-use Rattle.std.specs.Prelude.{true, false}
+use Rattle.std.specs.Prelude.{true, false, vec_len, Result, Ok, Err, IfOk}
+use Rattle.std.specs.declared.alloc.AllocError.{AllocError}
 use Rattle.std.proofs.lemmas.Bool.{cases_Bool}
 use Rattle.seq_theory.specs.Problem.{Problem, IsWithin, AreTold, is_end, pass_part, fail_part, fails, splits}
 use Rattle.seq_theory.specs.Tree.{Tree, leaf, ask, Solves, tree_cost}
@@ -10,7 +11,9 @@ use Rattle.seq_theory.proofs.GroupLaws.{pass_part_smaller, fail_part_smaller}
 use Rattle.seq_theory.proofs.PartsRecursion.{splitting-splits}
 use Rattle.seq_inst.specs.declared.group.Group.{Group}
 use Rattle.seq_inst.specs.declared.instance.Instance.{Instance}
+use Rattle.seq_inst.specs.declared.strategy.Strategy.{Strategy}
 use Rattle.seq_inst.specs.Instances.{problem_of}
+use Rattle.seq_inst.specs.Trees.{tree_of}
 use Rattle.seq_inst.specs.Members.{members}
 use Rattle.seq_inst.specs.Shapes.{height, leaf_count, AsksSplitting}
 use Rattle.seq_inst.proofs.MembersLaws.{length-members_below}
@@ -62,13 +65,13 @@ greedy-short inst g tree within is =
     let few = inst.valid.few in
     omega arith
 
--- the clauses of the code's call
+-- the clauses of the code's call, of a strategy and of what making one gives
 pub greedy-holds : (inst : Instance) (g : Group) (tree : Tree) → IsWithin (problem_of inst) (members g) → tree ≡ greedy (problem_of inst) (members g) → record {
   value : tree ≡ greedy (problem_of inst) (members g);
   right : Solves (problem_of inst) tree (members g);
   cost : tree_cost (problem_of inst) tree (members g) ≡ greedy_cost (problem_of inst) (members g);
   splitting : AsksSplitting (problem_of inst) tree (members g);
-  leaves : leaf_count tree ≤ length inst.weights.items;
+  leaves : leaf_count tree ≤ vec_len inst.weights;
   short : height tree ≤ 512;
 }
 greedy-holds inst g tree within is = record {
@@ -76,6 +79,17 @@ greedy-holds inst g tree within is = record {
   right = greedy-right inst (members g) tree within is;
   cost = ap (λ t. tree_cost (problem_of inst) t (members g)) is;
   splitting = greedy-splitting (problem_of inst) (members g) tree inst.valid.told within is;
-  leaves = greedy-leaves inst g tree within is;
+  leaves = (let f = greedy-leaves inst g tree within is in let n = inst.weights.ok.0 in omega arith);
   short = greedy-short inst g tree within is;
 }
+
+pub greedy-made : (inst : Instance) (g : Group) (tree : Tree) (made : Result Strategy AllocError) → IsWithin (problem_of inst) (members g) → tree ≡ greedy (problem_of inst) (members g) → IfOk made (λ s. tree_of s ≡ tree) → record {
+  value : IfOk made (λ s. tree_of s ≡ greedy (problem_of inst) (members g));
+  right : IfOk made (λ s. Solves (problem_of inst) (tree_of s) (members g));
+  cost : IfOk made (λ s. tree_cost (problem_of inst) (tree_of s) (members g) ≡ greedy_cost (problem_of inst) (members g));
+  splitting : IfOk made (λ s. AsksSplitting (problem_of inst) (tree_of s) (members g));
+  leaves : IfOk made (λ s. leaf_count (tree_of s) ≤ vec_len inst.weights);
+  short : IfOk made (λ s. height (tree_of s) ≤ 512);
+}
+greedy-made inst g tree (Ok s) within is made = greedy-holds inst g (tree_of s) within (made ∙ is)
+greedy-made inst g tree (Err e) within is made = record { value = tt; right = tt; cost = tt; splitting = tt; leaves = tt; short = tt }

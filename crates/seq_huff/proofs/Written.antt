@@ -47,7 +47,6 @@ written-more f classes more out count class value w lt e v = record {
 pub written-same : (f : ℕ → ℕ) (classes more out : List ℕ) (count : ℕ) → Written f classes out count → more ≡ classes → Written f more out count
 written-same f classes more out count w e = subst (λ l. Written f l out count) (sym e) w
 
-
 unfoldable pub passing_below : (ℕ → Bool) → ℕ → List ℕ
 passing_below f n = filter f (count_up 0 n)
 
@@ -94,4 +93,3 @@ length-passing f n = omega (arith, le f (count_up 0 n), long 0 n)
     long : (from n : ℕ) → length (count_up from n) ≡ n
     long from zero = refl
     long from (suc n) = ap suc (long (suc from) n)
-

@@ -13,9 +13,7 @@ ghost use Rattle.seq_huff.specs.Choice.{lesser_choice};
 
 use crate::scratch::Scratch;
 use crate::steps::step_sum;
-use seq_inst::{
-    Answer, Group, Instance, Strategy, ask_first, is_leaf, part, splits, weight_of,
-};
+use seq_inst::{Answer, Group, Instance, Strategy, ask_first, is_leaf, part, splits, weight_of};
 use std::alloc::{AllocError, Global};
 
 /// A test and its sum.

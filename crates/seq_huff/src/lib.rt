@@ -12,6 +12,8 @@ mod lower;
 mod merging;
 mod scratch;
 mod steps;
+#[cfg(test)]
+mod tests;
 mod weights;
 
 pub use choice::{greedy, greedy_cost};

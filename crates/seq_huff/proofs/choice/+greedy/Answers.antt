@@ -7,7 +7,7 @@ use Rattle.seq_inst.specs.Members.{members}
 use Rattle.seq_inst.specs.Instances.{problem_of}
 use Rattle.seq_inst.specs.Trees.{tree_of}
 use Rattle.seq_huff.proofs.GreedyCode.{greedy_there, greedy_parts}
-use Rattle.seq_huff.proofs.GreedyShape.{greedy-holds}
+use Rattle.seq_huff.proofs.GreedyShape.{greedy-holds, greedy-made}
 use Rattle.seq_huff.proofs.choice.+greedy.Goals as goal
 
 pub returns-then-is_leaf : goal.returns-then-is_leaf
@@ -53,4 +53,6 @@ returns t c =
     let xs = members c.args.group.now in
     let e = sym c.is_leaf.ensures ∙ c.if-is_leaf.false in
     let g = greedy_parts p xs (members c.part-pass_part.result) (members c.part-fail_part.result) c.greedy_choice-test.result c.args.inst.now.valid.told c.requires e c.greedy_choice-test.ensures c.part-pass_part.ensures c.part-fail_part.ensures in
-    ?
+    greedy-made c.args.inst.now c.args.group.now (ask c.greedy_choice-test.result (tree_of c.in_ok-pass.pass) (tree_of c.in_ok-fail.fail)) c.ask_first.result c.requires
+    (ap (λ x. ask c.greedy_choice-test.result x (tree_of c.in_ok-fail.fail)) c.in_ok-pass.ensures.value
+    ∙ ap (λ x. ask c.greedy_choice-test.result (greedy p (members c.part-pass_part.result)) x) c.in_ok-fail.ensures.value ∙ sym g.tree) c.ask_first.ensures
