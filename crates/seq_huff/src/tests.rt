@@ -1,4 +1,6 @@
 //! Worked values of bounds and of greedy's cost.
+ghost use Rattle.std.specs.Prelude.{◌≡◌, IfOk, vec_len};
+
 use crate::merging::huffman_of;
 use crate::{Scratch, bound, greedy, greedy_cost, huffman, one_step};
 use seq_inst::{Answer, Group, Instance, cost_of, part, root};
@@ -7,7 +9,9 @@ use std::test::Fail;
 
 /// Two faults and a good state; test 0 costs 2 and fails for class 1, test 1 costs 1 and fails for
 /// class 2.
-fn two_faults(alloc: Global) -> Result<Instance, AllocError> {
+fn two_faults(alloc: Global) -> Result<Instance, AllocError>
+    ensures { IfOk result (λ i. vec_len i.costs ≡ 2) }
+{
     let weights = vec![in alloc; 6, 3, 1]?;
     let costs = vec![in alloc; 2, 1]?;
     let passes = vec![in alloc;
@@ -61,7 +65,8 @@ fn bounds_of_two_faults(rt: HostRuntime) -> Result<(), Fail> {
 fn one_class_costs_nothing(rt: HostRuntime) -> Result<(), Fail> {
     let mut scratch = Scratch::new();
     let inst = two_faults(rt.alloc())?;
-    let one = part(&inst, &root(&inst), 0, Answer::Fail);
+    let all = root(&inst);
+    let one = part(&inst, &all, 0, Answer::Fail);
     assert_eq!(rt; huffman(&mut scratch, &inst, &one), 0);
     assert_eq!(rt; bound(&mut scratch, &inst, &one), 0);
     assert_eq!(rt; greedy_cost(&mut scratch, &inst, &one), 0);
