@@ -1,29 +1,23 @@
 -- The sums and products of a bound fit a word: a group weighs at most 4,097,000,000, and all costs are at most
 -- 256,000,000 together.
-use Rattle.std.proofs.Common.{◌≡◌, ◌≢◌, ℕ, zero, suc, ◌+◌, ◌<◌, ◌≤◌, List, [], ◌∷◌, ◌++◌, length, refl, sym, ap, ◌∙◌, arith, inl, inr, subst, take, set, length-append, add-one, ◌*◌, ◌^◌, ◌-◌, ◌/◌, ◌%◌, get_or, drop}
+use Rattle.std.proofs.Common.{◌≡◌, ℕ, zero, suc, ◌+◌, ◌<◌, ◌≤◌, List, [], ◌∷◌, length, refl, sym, ap, ◌∙◌, arith, inl, inr, take, ◌*◌, ◌^◌, ◌-◌, ◌/◌, ◌%◌, get_or, drop}
 use Rattle.std.proofs.Math.Nat.{mul-le-mul_left, mul-le-mul_right}
 use Rattle.std.proofs.lemmas.List.Sums.{sum_by-cons}
-use Rattle.std.proofs.Math.Seq.{take-suc-set}
-use Rattle.std.proofs.lemmas.List.{map-append}
-use Rattle.std.specs.Prelude.{Bool, true, false, filter, map, nat_eq, sum, cond}
-use Rattle.std.specs.List.{list_any}
-use Rattle.std.proofs.lemmas.Bool.{cases_Bool, cases_lt, eqb-true, eq-eqb, ne_eqb, false≢true}
-use Rattle.seq_theory.specs.Problem.{Problem, count_up, IsIn, IsWithin, weight_of, is_end, splits, splitting, least_of}
+use Rattle.std.specs.Prelude.{true, false, map, sum}
+use Rattle.std.proofs.lemmas.Bool.{cases_Bool}
+use Rattle.seq_theory.specs.Problem.{Problem, IsIn, IsWithin, weight_of, is_end, splits, splitting, least_of}
 use Rattle.seq_theory.specs.Huffman.{upward, huff}
 use Rattle.seq_theory.proofs.BoundLeast.{weight-positive, some_class}
 use Rattle.seq_huff.proofs.SumLaws.{sum-upward}
-use Rattle.seq_theory.specs.Bound.{goal_weight, goal_weights, sum_first, next_after, bound_from, splitting_costs, bound, step_sum}
+use Rattle.seq_theory.specs.Bound.{goal_weights, sum_first, next_after, bound_from, splitting_costs, bound, step_sum}
 use Rattle.seq_theory.specs.Greedy.{one_step}
 use Rattle.std.specs.Prelude.{max}
-use Rattle.seq_theory.proofs.GroupLaws.{IsIn-filter, filter-IsIn, filter_passes, list_any-IsIn}
-use Rattle.seq_theory.proofs.LeastLaws.{count_up-IsIn}
-use Rattle.seq_theory.proofs.PartsRecursion.{map-agree, splitting-there}
+use Rattle.seq_theory.proofs.PartsRecursion.{splitting-there}
 use Rattle.seq_inst.specs.declared.group.Group.{Group}
 use Rattle.seq_inst.specs.declared.instance.Instance.{Instance}
-use Rattle.seq_inst.specs.Members.{has_class, members_below, members}
+use Rattle.seq_inst.specs.Members.{members}
 use Rattle.seq_inst.specs.Instances.{problem_of}
-use Rattle.seq_inst.proofs.MembersLaws.{length-members_below, count_up-more}
-use Rattle.seq_inst.proofs.PartsLaws.{members-within}
+use Rattle.seq_inst.proofs.MembersLaws.{length-members_below}
 use Rattle.seq_inst.proofs.SolveLaws.{light}
 use Rattle.seq_huff.proofs.Written.{passing-all, length-passing}
 

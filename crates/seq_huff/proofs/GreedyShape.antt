@@ -1,10 +1,10 @@
 -- The greedy strategy asks only tests that split what reaches them, so it is small.
 use Rattle.std.proofs.Common.{◌≡◌, ℕ, zero, suc, ◌<◌, ◌≤◌, List, [], ◌∷◌, length, refl, arith, subst, ap, sym, ◌∙◌, inl, inr}
-use Rattle.std.specs.Prelude.{true, false, vec_len, Result, Ok, Err, IfOk}
+use Rattle.std.specs.Prelude.{vec_len, Result, Ok, Err, IfOk}
 use Rattle.std.specs.declared.alloc.AllocError.{AllocError}
 use Rattle.std.proofs.lemmas.Bool.{cases_Bool}
-use Rattle.seq_theory.specs.Problem.{Problem, IsWithin, AreTold, is_end, pass_part, fail_part, fails, splits}
-use Rattle.seq_theory.specs.Tree.{Tree, leaf, ask, Solves, tree_cost}
+use Rattle.seq_theory.specs.Problem.{Problem, IsWithin, AreTold, is_end, pass_part, fail_part, fails}
+use Rattle.seq_theory.specs.Tree.{Tree, Solves, tree_cost}
 use Rattle.seq_theory.specs.Greedy.{greedy, greedy_test, greedy_cost}
 use Rattle.seq_theory.proofs.GreedyLaws.{greedy_test_splits, greedy-end, greedy-more, part-within}
 use Rattle.seq_theory.proofs.GroupLaws.{pass_part_smaller, fail_part_smaller}

@@ -1,8 +1,8 @@
 -- The theory's laws of bounds, for the groups of an instance.
 use Rattle.std.proofs.Common.{◌≡◌, ℕ, ◌≤◌, refl, arith, subst, sym, Option, Some, None}
 use Rattle.std.specs.Prelude.{List}
-use Rattle.seq_theory.specs.Problem.{Problem, IsWithin, IsWeighed, AreTold, is_end}
-use Rattle.seq_theory.specs.Tree.{Tree, Solves, tree_cost}
+use Rattle.seq_theory.specs.Problem.{IsWithin, IsWeighed}
+use Rattle.seq_theory.specs.Tree.{Tree, Solves}
 use Rattle.seq_theory.specs.Bound.{bound}
 use Rattle.seq_theory.specs.Greedy.{one_step, greedy, greedy_cost}
 use Rattle.seq_theory.specs.Huffman.{huff}
