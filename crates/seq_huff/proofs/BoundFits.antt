@@ -1,0 +1,169 @@
+-- The sums and products of a bound fit a word: a group weighs at most 4,097,000,000, and all costs are at most
+-- 256,000,000 together.
+use Rattle.std.proofs.Common.{◌≡◌, ℕ, zero, suc, ◌+◌, ◌<◌, ◌≤◌, List, [], ◌∷◌, length, refl, sym, ap, ◌∙◌, arith, inl, inr, take, ◌*◌, ◌^◌, ◌-◌, ◌/◌, ◌%◌, get_or, drop}
+use Rattle.std.proofs.Math.Nat.{mul-le-mul_left, mul-le-mul_right}
+use Rattle.std.proofs.lemmas.List.Sums.{sum_by-cons}
+use Rattle.std.specs.Prelude.{true, false, map, sum}
+use Rattle.std.proofs.lemmas.Bool.{cases_Bool}
+use Rattle.seq_theory.specs.Problem.{Problem, IsIn, IsWithin, weight_of, is_end, splits, splitting, least_of}
+use Rattle.seq_theory.specs.Huffman.{upward, huff}
+use Rattle.seq_theory.proofs.BoundLeast.{weight-positive, some_class}
+use Rattle.seq_huff.proofs.SumLaws.{sum-upward}
+use Rattle.seq_theory.specs.Bound.{goal_weights, sum_first, next_after, bound_from, splitting_costs, bound, step_sum}
+use Rattle.seq_theory.specs.Greedy.{one_step}
+use Rattle.std.specs.Prelude.{max}
+use Rattle.seq_theory.proofs.PartsRecursion.{splitting-there}
+use Rattle.seq_inst.specs.declared.group.Group.{Group}
+use Rattle.seq_inst.specs.declared.instance.Instance.{Instance}
+use Rattle.seq_inst.specs.Members.{members}
+use Rattle.seq_inst.specs.Instances.{problem_of}
+use Rattle.seq_inst.proofs.MembersLaws.{length-members_below}
+use Rattle.seq_inst.proofs.SolveLaws.{light}
+use Rattle.seq_huff.proofs.Written.{passing-all, length-passing}
+
+sum-weights : (p : Problem) (xs : List ℕ) → sum (map p.weight xs) ≡ weight_of p xs
+sum-weights p [] = refl
+sum-weights p (x ∷ xs) = sum_by-cons (λ n. n) (p.weight x) (map p.weight xs) ∙ ap (λ n. p.weight x + n) (sum-weights p xs)
+
+length-map : (f : ℕ → ℕ) (xs : List ℕ) → length (map f xs) ≡ length xs
+length-map f [] = refl
+length-map f (x ∷ xs) = ap suc (length-map f xs)
+
+pub product-le : (a b c d : ℕ) → a ≤ c → b ≤ d → a * b ≤ c * d
+product-le a b c d h1 h2 = let f1 = mul-le-mul_left a h2 in let f2 = mul-le-mul_right d h1 in omega arith
+
+pub weights-fit : (inst : Instance) (g : Group) (out : List ℕ) → IsWithin (problem_of inst) (members g) → out ≡ map (problem_of inst).weight (members g) → length out * sum out < 2 ^ 64
+weights-fit inst g out within e =
+    let p = problem_of inst in
+    let l1 = ap length e ∙ length-map p.weight (members g) in
+    let l2 = length-members_below g 512 in
+    let s1 = ap sum e ∙ sum-weights p (members g) in
+    let s2 = light inst g within in
+    let f = product-le (length out) (sum out) 512 4097000000 (omega arith) (omega arith) in
+    omega arith
+
+first_le : (k : ℕ) (xs : List ℕ) → sum_first k xs ≤ sum xs
+first_le zero xs = omega arith
+first_le (suc k) [] = omega arith
+first_le (suc k) (x ∷ xs) = omega (arith, first_le k xs, sum_by-cons (λ n. n) x xs)
+
+whole_take : (n : ℕ) (xs : List ℕ) → length xs ≤ n → take n xs ≡ xs
+whole_take zero [] le = refl
+whole_take zero (x ∷ xs) le = absurd (let bad : ⊥ = omega arith in bad)
+whole_take (suc n) [] le = refl
+whole_take (suc n) (x ∷ xs) le = ap (λ l. x ∷ l) (whole_take n xs (omega arith))
+
+pub first_fits : (k : ℕ) (xs : List ℕ) → get_or xs 0 0 + sum_first k (take (length xs - 1) (drop 1 xs)) ≤ sum xs
+first_fits k [] = omega (arith, first_le k [])
+first_fits k (x ∷ xs) =
+    let e = ap (sum_first k) (whole_take (length (x ∷ xs) - 1) xs (omega arith)) in
+    omega (arith, first_le k xs, sum_by-cons (λ n. n) x xs)
+
+pub sum_first-le : (k : ℕ) (xs : List ℕ) → sum_first k xs ≤ sum xs
+sum_first-le k xs = first_le k xs
+
+next-le : (k : ℕ) (xs : List ℕ) → next_after k xs ≤ sum xs
+next-le zero [] = omega arith
+next-le (suc k) [] = omega arith
+next-le zero (x ∷ xs) = omega (arith, sum_by-cons (λ n. n) x xs)
+next-le (suc k) (x ∷ xs) = omega (arith, sum_by-cons (λ n. n) x xs, next-le k xs)
+
+sum-map-le : (f : ℕ → ℕ) (most : ℕ) (xs : List ℕ) → ((t : ℕ) → IsIn t xs → f t ≤ most) → sum (map f xs) ≤ length xs * most
+sum-map-le f most [] h = omega arith
+sum-map-le f most (x ∷ xs) h =
+    let a = h x (inl refl) in
+    let b = sum-map-le f most xs (λ t i. h t (inr i)) in
+    omega (arith, sum_by-cons (λ n. n) (f x) (map f xs))
+
+-- what the numbers of a bound fit into
+pub record BoundFits (p : Problem) (xs costs : List ℕ) : Type 0 where
+  pub positive : 1 ≤ weight_of p xs
+  pub light : weight_of p xs ≤ 4097000000
+  pub costs_small : sum costs ≤ 256000000
+  pub first : (k : ℕ) → sum_first k costs ≤ 256000000
+  pub next : (k : ℕ) → next_after k costs ≤ 256000000
+  pub product : (k : ℕ) → weight_of p xs * sum_first k costs ≤ 1048832000000000000
+  pub rest : (r k : ℕ) → r < weight_of p xs → r * next_after k costs ≤ 1048832000000000000
+
+pub bound-fits : (inst : Instance) (g : Group) (costs : List ℕ) → IsWithin (problem_of inst) (members g) → is_end (problem_of inst) (members g) ≡ false → costs ≡ upward (map (problem_of inst).cost (splitting (problem_of inst) (members g))) → BoundFits (problem_of inst) (members g) costs
+bound-fits inst g costs within e is =
+    let p = problem_of inst in
+    let ts = splitting p (members g) in
+    let w = light inst g within in
+    let s1 = ap sum is ∙ sum-upward (map p.cost ts) in
+    let s2 = sum-map-le p.cost 1000000 ts (λ t i. (inst.valid.costs t (splitting-there p (members g) t i)).1) in
+    let l1 = length-passing (splits p (members g)) p.tests in
+    let l2 = ap length (passing-all (splits p (members g)) p.tests) in
+    let few = inst.valid.tests in
+    let all : sum costs ≤ 256000000 = omega arith in
+    record {
+      positive = weight-positive p (members g) (record { positive = inst.valid.positive; goals = λ c lt. lt }) within (some_class p (members g) e);
+      light = w;
+      costs_small = all;
+      first = λ k. let f = first_le k costs in omega arith;
+      next = λ k. let f = next-le k costs in omega arith;
+      product = λ k. let f = first_le k costs in let m = product-le (weight_of p (members g)) (sum_first k costs) 4097000000 256000000 w (omega arith) in omega arith;
+      rest = λ r k lt. let f = next-le k costs in let m = product-le r (next_after k costs) 4097000000 256000000 (omega arith) (omega arith) in omega arith;
+    }
+
+-- the two products of a bound, in the words of the code
+pub record Products (w s r n : ℕ) : Type 0 where
+  pub first : w * s ≤ 1048832000000000000
+  pub second : r * n ≤ 1048832000000000000
+
+pub products-fit : (p : Problem) (xs costs : List ℕ) (h w s n : ℕ) → BoundFits p xs costs → w ≡ weight_of p xs → s ≡ sum_first (h / w) costs → n ≡ next_after (h / w) costs → Products w s (h % w) n
+products-fit p xs costs h w s n f we se ne =
+    let a = f.product (h / w) in
+    let b = f.positive in
+    let lt : h % w < weight_of p xs = omega arith in
+    let c = f.rest (h % w) (h / w) lt in
+    let e1 : w * s ≡ weight_of p xs * sum_first (h / w) costs = ap (λ x. x * s) we ∙ ap (λ x. weight_of p xs * x) se in
+    let e2 : h % w * n ≡ h % w * next_after (h / w) costs = ap (λ x. h % w * x) ne in
+    record { first = omega arith; second = omega arith }
+
+pub bound-is : (p : Problem) (xs costs : List ℕ) (h w s n : ℕ) → is_end p xs ≡ false → costs ≡ splitting_costs p xs → h ≡ huff (goal_weights p xs) → w ≡ weight_of p xs → s ≡ sum_first (h / w) costs → n ≡ next_after (h / w) costs → w * s + h % w * n ≡ bound p xs
+unfolding bound
+bound-is p xs costs h w s n e ce he we se ne =
+    ap (λ x. w * x + h % w * n) se ∙ ap (λ x. w * sum_first (h / w) costs + h % w * x) ne
+    ∙ ap (λ c. bound_from w h c) ce ∙ ap (λ x. bound_from x h (splitting_costs p xs)) we ∙ ap (λ x. bound_from (weight_of p xs) x (splitting_costs p xs)) he
+    ∙ sym (rw e refl)
+
+pub bound-end : (p : Problem) (xs : List ℕ) → is_end p xs ≡ true → 0 ≡ bound p xs
+unfolding bound
+bound-end p xs e = rw e refl
+
+-- a bound is small
+pub bound-small : (inst : Instance) (g : Group) → IsWithin (problem_of inst) (members g) → bound (problem_of inst) (members g) ≤ 2097664000000000000
+unfolding bound
+bound-small inst g within =
+    let p = problem_of inst in
+    let xs = members g in
+    elim (cases_Bool (is_end p xs)) [
+      | inl e ↦ rw e (omega arith)
+      | inr e ↦ rw e
+          (let f = bound-fits inst g (splitting_costs p xs) within e refl in
+          let k = huff (goal_weights p xs) / weight_of p xs in
+          let positive = f.positive in
+          let a = f.product k in
+          let lt : huff (goal_weights p xs) % weight_of p xs < weight_of p xs = omega arith in
+          let b = f.rest (huff (goal_weights p xs) % weight_of p xs) k lt in
+          omega arith)
+    ]
+
+-- the sum of a test and the bounds of its parts fits
+pub step-fits : (inst : Instance) (g pass fail : Group) (cost weight a b test : ℕ) → IsWithin (problem_of inst) (members g) → IsWithin (problem_of inst) (members pass) → IsWithin (problem_of inst) (members fail) → test < (problem_of inst).tests → cost ≡ (problem_of inst).cost test → weight ≡ weight_of (problem_of inst) (members g) → a ≡ bound (problem_of inst) (members pass) → b ≡ bound (problem_of inst) (members fail) → (cost * weight ≤ 4097000000000000) × (a ≤ 2097664000000000000) × (b ≤ 2097664000000000000)
+step-fits inst g pass fail cost weight a b test within wp wf there ce we ae be =
+    let f1 = bound-small inst pass wp in
+    let f2 = bound-small inst fail wf in
+    let l = light inst g within in
+    let c = (inst.valid.costs test there).1 in
+    let m = product-le cost weight 1000000 4097000000 (omega arith) (omega arith) in
+    (omega arith, omega arith, omega arith)
+
+pub one_step-end : (p : Problem) (xs : List ℕ) → is_end p xs ≡ true → 0 ≡ one_step p xs
+unfolding one_step
+one_step-end p xs e = rw e refl
+
+pub one_step-is : (p : Problem) (xs : List ℕ) (low least : ℕ) → is_end p xs ≡ false → low ≡ bound p xs → least ≡ least_of (map (step_sum p (bound p) xs) (splitting p xs)) → max low least ≡ one_step p xs
+unfolding one_step
+one_step-is p xs low least e le se = ap (λ x. max x least) le ∙ ap (max (bound p xs)) se ∙ sym (rw e refl)

@@ -1,0 +1,57 @@
+-- The theory's laws of bounds, for the groups of an instance.
+use Rattle.std.proofs.Common.{◌≡◌, ℕ, ◌≤◌, refl, arith, subst, sym, Option, Some, None}
+use Rattle.std.specs.Prelude.{List}
+use Rattle.seq_theory.specs.Problem.{IsWithin, IsWeighed}
+use Rattle.seq_theory.specs.Tree.{Tree, Solves}
+use Rattle.seq_theory.specs.Bound.{bound}
+use Rattle.seq_theory.specs.Greedy.{one_step, greedy, greedy_cost}
+use Rattle.seq_theory.specs.Huffman.{huff}
+use Rattle.seq_theory.proofs.PublicLaws.{bounds_hold}
+use Rattle.seq_theory.proofs.HuffmanLaws.{huffman_is_least}
+use Rattle.seq_theory.proofs.GreedyLaws.{bound-le-one_step, greedy-solves}
+use Rattle.seq_theory.proofs.LeastOfLaws.{lesser}
+use Rattle.seq_theory.proofs.WantedLaws.{one_step-wanted}
+use Rattle.seq_inst.specs.declared.instance.Instance.{Instance}
+use Rattle.seq_inst.specs.Instances.{problem_of}
+use Rattle.seq_huff.specs.Bounds.{UndercutsTrees, IsAtMostLeast, IsAtLeastLeast, WantsParts}
+use Rattle.seq_huff.specs.Choice.{lesser_number}
+
+pub weighed : (inst : Instance) → IsWeighed (problem_of inst)
+weighed inst = record { positive = inst.valid.positive; goals = λ c lt. lt }
+
+pub huffman-undercuts : (weights : List ℕ) (n : ℕ) → n ≡ huff weights → UndercutsTrees weights n
+huffman-undercuts weights n is t same = let f = huffman_is_least weights t same in omega arith
+
+pub bound-low : (inst : Instance) (group : List ℕ) (n : ℕ) → IsWithin (problem_of inst) group → n ≡ bound (problem_of inst) group → IsAtMostLeast (problem_of inst) group n
+bound-low inst group n within is least l =
+    let b = bounds_hold (problem_of inst) group least (weighed inst) inst.valid.told within l in
+    let f1 = b.bound_low in
+    let f2 = b.one_step_low in
+    omega arith
+
+pub one_step-holds : (inst : Instance) (group : List ℕ) (n : ℕ) → IsWithin (problem_of inst) group → n ≡ one_step (problem_of inst) group → record {
+  value : n ≡ one_step (problem_of inst) group;
+  above : bound (problem_of inst) group ≤ n;
+  low : IsAtMostLeast (problem_of inst) group n;
+  wanted : WantsParts (problem_of inst) group n;
+}
+one_step-holds inst group n within is = record {
+  value = is;
+  above = (let f = bound-le-one_step (problem_of inst) group in omega arith);
+  low = λ least l. let f = (bounds_hold (problem_of inst) group least (weighed inst) inst.valid.told within l).one_step_low in omega arith;
+  wanted = λ t passed wanted e there s le. one_step-wanted (problem_of inst) group t passed (weighed inst) inst.valid.told wanted e there s (omega arith);
+}
+
+pub greedy-high : (inst : Instance) (group : List ℕ) (n : ℕ) → IsWithin (problem_of inst) group → n ≡ greedy_cost (problem_of inst) group → IsAtLeastLeast (problem_of inst) group n
+greedy-high inst group n within is least l =
+    let f = (bounds_hold (problem_of inst) group least (weighed inst) inst.valid.told within l).greedy_high in
+    omega arith
+
+-- greedy's strategy, in the words of the code
+pub greedy-right : (inst : Instance) (group : List ℕ) (tree : Tree) → IsWithin (problem_of inst) group → tree ≡ greedy (problem_of inst) group → Solves (problem_of inst) tree group
+greedy-right inst group tree within is = subst (λ t. Solves (problem_of inst) t group) (sym is) (greedy-solves (problem_of inst) group inst.valid.told within)
+
+-- the code's lesser number is the theory's
+pub lesser-number : (o : Option ℕ) (n : ℕ) → lesser_number o n ≡ lesser o n
+lesser-number None n = refl
+lesser-number (Some m) n = refl

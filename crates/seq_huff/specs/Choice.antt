@@ -1,0 +1,13 @@
+-- The test of least sum so far, the lowest of these.
+use Rattle.std.specs.Prelude.{ℕ, cond, nat_le, min, Option, Some, None}
+use Rattle.seq_huff.specs.declared.choice.Chosen.{Chosen}
+
+-- the earlier choice, unless the new sum is less
+abbrev pub lesser_choice : Option Chosen → ℕ → ℕ → Chosen
+lesser_choice None test sum = record { test = test; sum = sum }
+lesser_choice (Some c) test sum = cond (nat_le c.sum sum) c (record { test = test; sum = sum })
+
+-- the lesser of an earlier number, if there is one, and a new one
+abbrev pub lesser_number : Option ℕ → ℕ → ℕ
+lesser_number None n = n
+lesser_number (Some m) n = min m n

@@ -1,0 +1,23 @@
+//! Bounds of a group's least cost, and the greedy strategy.
+//!
+//! From below there are Huffman's cost of the classes' weights (Huffman, "A method for the construction
+//! of minimum-redundancy codes", 1952), a bound in whole numbers made from it and the costs of the
+//! splitting tests, and that bound one test further. From above there is what the greedy strategy
+//! costs. The calls work in a `Scratch` of fixed arrays and take no memory; only `greedy` does, for the
+//! strategy that it makes.
+#![tactic(auto)]
+
+mod choice;
+mod lower;
+mod merging;
+mod scratch;
+mod steps;
+#[cfg(test)]
+mod tests;
+mod weights;
+
+pub use choice::{greedy, greedy_cost};
+pub use lower::bound;
+pub use scratch::Scratch;
+pub use steps::one_step;
+pub use weights::huffman;

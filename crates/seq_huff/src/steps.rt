@@ -1,0 +1,69 @@
+//! The bound one test further: whatever a strategy asks first, it pays that test over the whole group
+//! and at least the bounds of both parts.
+ghost use Rattle.std.specs.Prelude.{◌≡◌, ◌<◌, ◌≤◌, vec_len};
+ghost use Rattle.seq_theory.specs.Problem.{IsWithin, weight_of as weight_sum};
+ghost use Rattle.seq_theory.specs.Bound.{step_sum as step_sum_of, bound as bound_of};
+ghost use Rattle.seq_theory.specs.Greedy.{one_step as one_step_of};
+ghost use Rattle.seq_inst.specs.Members.{members};
+ghost use Rattle.seq_inst.specs.Instances.{problem_of};
+ghost use Rattle.seq_huff.specs.Bounds.{IsAtMostLeast, WantsParts};
+ghost use Rattle.seq_huff.specs.Choice.{lesser_number};
+
+use crate::lower::bound;
+use crate::scratch::Scratch;
+use seq_inst::{Answer, Group, Instance, is_leaf, part, splits, weight_of};
+
+/// The sum of a test over the group, of which the weight is known, and the bounds of its parts.
+pub(crate) fn step_sum(
+    scratch: &mut Scratch,
+    inst: &Instance,
+    group: &Group,
+    test: u32,
+    weight: u64,
+) -> u64
+    requires within { IsWithin (problem_of inst.now) (members group.now) }
+    requires there { test < vec_len inst.now.costs }
+    requires weight { weight ≡ weight_sum (problem_of inst.now) (members group.now) }
+    ensures { result ≡ step_sum_of (problem_of inst.now) (bound_of (problem_of inst.now)) (members group.now) test }
+{
+    let pass_part = part(inst, group, test, Answer::Pass);
+    let pass = bound(scratch, inst, &pass_part);
+    let fail_part = part(inst, group, test, Answer::Fail);
+    let fail = bound(scratch, inst, &fail_part);
+    u64::from(inst.costs[test as usize]) * weight + (pass + fail)
+}
+
+/// The lesser of an earlier number, if there is one, and a new one.
+fn lesser_of(earlier: Option<u64>, number: u64) -> u64
+    ensures { result ≡ lesser_number earlier number }
+{
+    match earlier {
+        None => number,
+        Some(least) => least.min(number),
+    }
+}
+
+/// The larger of the bound and the least sum of a splitting test and the bounds of its parts; 0 for
+/// one goal.
+pub fn one_step(scratch: &mut Scratch, inst: &Instance, group: &Group) -> u64
+    requires { IsWithin (problem_of inst.now) (members group.now) }
+    ensures value { result ≡ one_step_of (problem_of inst.now) (members group.now) }
+    ensures above { bound_of (problem_of inst.now) (members group.now) ≤ result }
+    ensures low { IsAtMostLeast (problem_of inst.now) (members group.now) result }
+    ensures wanted { WantsParts (problem_of inst.now) (members group.now) result }
+{
+    if is_leaf(inst, group) {
+        return 0;
+    }
+    let low = bound(scratch, inst, group);
+    let weight = weight_of(inst, group);
+    let tests = inst.costs.len() as u32;
+    let mut least = None;
+    for test in 0..tests {
+        if splits(inst, group, test) {
+            let sum = step_sum(scratch, inst, group, test, weight);
+            least = Some(lesser_of(least, sum));
+        }
+    }
+    low.max(least.unwrap_or(0))
+}
