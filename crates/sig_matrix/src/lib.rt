@@ -13,3 +13,6 @@ mod text;
 pub use building::matrix_of;
 pub use matrix::{FaultRow, Matrix};
 pub use text::matrix_text;
+
+#[cfg(test)]
+mod tests;

@@ -5,7 +5,6 @@ ghost use Rattle.sig_lines.specs.Pieces.{spaced, bytes_of};
 ghost use Rattle.seq_theory.specs.Problem.{count_up};
 ghost use Rattle.sig_matrix.specs.Detection.{state_count};
 ghost use Rattle.sig_matrix.specs.MatrixText.{number_words, test_words, outcome, row_word, state_words, matrix_bytes};
-ghost use Rattle.sig_matrix.specs.Valid.{IsValid};
 
 use crate::matrix::Matrix;
 use itoa::Buffer;
@@ -109,7 +108,8 @@ fn push_states(out: &mut Vec<u8>, matrix: &Matrix) -> Result<(), AllocError>
 
 /// The matrix text. The mode is a name, or `-` where all tests are taken.
 pub fn matrix_text(alloc: Global, matrix: &Matrix, mode: &str) -> Result<Vec<u8>, AllocError>
-    requires { IsValid matrix.now }
+    requires faults { length matrix.now.faults ≤ 4096 }
+    requires tests { length matrix.now.tests ≤ 256 }
     ensures { IfOk result (λ text. text.items ≡ matrix_bytes matrix.now mode.now) }
 {
     let mut out = Vec::new(alloc);

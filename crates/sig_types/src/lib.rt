@@ -1,4 +1,7 @@
-//! The types of a model.
+//! The types of a model of a system, as its text states it: blocks of ports, switches, parts, uses, test points and
+//! links, with names, weights and costs that are in their ranges by type; and refusals with their places. The
+//! definition of all breaches of a model stands in `specs/Breaches.antt`; the check that looks for them is not
+//! built yet.
 #![tactic(auto)]
 
 mod list;
