@@ -12,7 +12,7 @@ use Rattle.sig_text.specs.SmallModel.{IsSmallModel, test_count}
 use Rattle.sig_matrix.specs.declared.matrix.Matrix.{Matrix}
 use Rattle.sig_matrix.specs.Detection.{before_faults, state_count, system_of}
 use Rattle.seq_theory.specs.States.{firsts}
-use Rattle.teams_run.specs.SmallMatrix.{HasFault, placed_tests, tests_at, IsFaultOf, IsTestOf, IsMatrixOfBlock}
+use Rattle.teams_run.specs.SmallMatrix.{PlacedTest, HasFault, placed_tests, tests_at, IsFaultOf, IsTestOf, IsMatrixOfBlock}
 use Rattle.teams_run.proofs.LabelLaws.{firsts-few}
 
 -- the block that is read is the one block
@@ -26,7 +26,7 @@ pub tests-counted : (points : List Point) → length (placed_tests points) ≡ t
 tests-counted [] = refl
 tests-counted (point ∷ rest) =
     let all = length-append (tests_at point) (placed_tests rest) in
-    let own : length (tests_at point) ≡ length point.tests = length-map point.tests _ in
+    let own : length (tests_at point) ≡ length point.tests = length-map point.tests (λ (test : Test). record { point = point.name; test = test }) in
     let more = tests-counted rest in
     omega arith
 
