@@ -4,6 +4,7 @@
 
 mod by_class;
 mod classes;
+mod groups;
 mod head;
 mod outcome_report;
 mod report;
