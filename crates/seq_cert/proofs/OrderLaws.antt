@@ -156,7 +156,6 @@ pub groups_counted : (rows : List Row) → length (in_order (map row_line rows))
 unfolding in_order
 groups_counted rows = length-ordered is_before (map row_line rows) ∙ length-map rows row_line
 
-
 one_way : (a m b n : ℕ) → nat_lt a b || (nat_eq a b && nat_lt m n) ≡ true → nat_lt b a || (nat_eq b a && nat_lt n m) ≡ false
 one_way a m b n e = grind (arith, nat_tests)
 

@@ -13,3 +13,6 @@ mod tree;
 
 pub use outcome_report::report_of;
 pub use report::{ClassLine, GroupLine, MissedLine, Report, StateLine, TreeLine};
+
+#[cfg(test)]
+mod tests;
