@@ -1,4 +1,5 @@
 pub mod OrderLaws
+pub mod NumberOrder
 pub mod PickedStates
 pub mod Appended
 pub mod TreeText

@@ -26,11 +26,7 @@ fn write_state(out: &mut Lines, state: &StateLabel) -> Result<(), AllocError>
 
 /// Writes the states with these numbers.
 #[tactic(auto, using(sig_lines::proofs::WrittenLines::writing))]
-fn write_states(
-    out: &mut Lines,
-    states: &[StateLabel],
-    numbers: &[usize],
-) -> Result<(), AllocError>
+fn write_states(out: &mut Lines, states: &[StateLabel], numbers: &[usize]) -> Result<(), AllocError>
     requires begun { out.old.begun ≡ false }
     requires there { All (λ i. i < length states.now) numbers.now }
     ensures { OnOk result (out.new ≡ with_lines out.old (map (λ i. state_words (state_line (slice_index_or states.now i no_state))) numbers.now)) }

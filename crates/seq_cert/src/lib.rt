@@ -4,6 +4,7 @@
 
 mod by_class;
 mod classes;
+mod groups;
 mod head;
 mod outcome_report;
 mod report;
@@ -12,3 +13,6 @@ mod tree;
 
 pub use outcome_report::report_of;
 pub use report::{ClassLine, GroupLine, MissedLine, Report, StateLine, TreeLine};
+
+#[cfg(test)]
+mod tests;

@@ -1,5 +1,5 @@
 //! The text of an outcome's report, written line by line without a report between.
-ghost use Rattle.std.specs.Prelude.{◌≡◌, ◌≤◌, ◌∷◌, [], codes, false, OnOk, IfOk, IsNone};
+ghost use Rattle.std.specs.Prelude.{◌≡◌, ◌≤◌, ◌∷◌, [], codes, false, OnOk, IfOk};
 ghost use Rattle.sig_lines.specs.Written.{with_lines};
 ghost use Rattle.seq_theory.specs.Tree.{AsksOnly};
 ghost use Rattle.seq_inst.specs.Instances.{problem_of};
@@ -9,6 +9,7 @@ ghost use Rattle.seq_cert.specs.Text.{report_lines, report_bytes};
 ghost use Rattle.seq_cert.specs.OutcomeReport.{report_from};
 
 use crate::classes::write_classes;
+use crate::groups::{write_groups, write_missed};
 use crate::head::write_head;
 use crate::test_lines::write_tests;
 use crate::tree::write_tree;
@@ -38,14 +39,14 @@ fn write_report(
     requires labels { AreLabelsOf (problem_of inst.now) labels.now }
     requires there { AsksOnly (problem_of inst.now).tests (tree_of outcome.now.strategy) }
     requires proper { outcome.now.low ≤ outcome.now.cost }
-    requires no_groups { outcome.now.rows.items ≡ [] }
-    requires none_missed { IsNone outcome.now.missed }
     ensures { OnOk result (out.new ≡ with_lines out.old (report_lines (report_from (problem_of inst.now) outcome.now labels.now))) }
 {
     write_head(out, inst, outcome, labels)?;
     write_classes(alloc, out, inst, labels.states.as_slice())?;
     write_tests(out, labels.tests.as_slice())?;
     write_tree(out, inst, &outcome.strategy, &root(inst))?;
+    write_groups(alloc, out, outcome.rows.as_slice())?;
+    write_missed(out, outcome.missed)?;
     write_end(out)?;
     Ok(())
 }
@@ -60,8 +61,6 @@ pub fn report_of(
     requires labels { AreLabelsOf (problem_of inst.now) labels.now }
     requires there { AsksOnly (problem_of inst.now).tests (tree_of outcome.now.strategy) }
     requires proper { outcome.now.low ≤ outcome.now.cost }
-    requires no_groups { outcome.now.rows.items ≡ [] }
-    requires none_missed { IsNone outcome.now.missed }
     ensures { IfOk result (λ v. v.items ≡ report_bytes (report_from (problem_of inst.now) outcome.now labels.now)) }
 {
     let mut out = Lines::new(alloc);
