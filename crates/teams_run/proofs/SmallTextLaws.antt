@@ -3,6 +3,7 @@ use Rattle.std.proofs.Common.{◌≡◌, ℕ, ◌+◌, ◌≤◌, List, [], ◌�
 use Rattle.std.specs.Prelude.{Bool, true, false, nat_eq, All}
 use Rattle.std.proofs.lemmas.Bool.{cases_Bool}
 use Rattle.std.proofs.lemmas.Slice.Zip.{AllZip-long}
+use Rattle.std.proofs.lemmas.List.Sums.{sum_by-cons}
 use Rattle.std.proofs.lemmas.List.{length-map}
 use Rattle.sig_types.specs.declared.model.Block.{Block}
 use Rattle.sig_types.specs.declared.model.Model.{Model}
@@ -25,10 +26,9 @@ have-faults m s k d lt = let part = s.each_part k d lt in (part.fault, part.has_
 pub tests-counted : (points : List Point) → length (placed_tests points) ≡ test_count points
 tests-counted [] = refl
 tests-counted (point ∷ rest) =
-    let all = length-append (tests_at point) (placed_tests rest) in
+    let all : length (placed_tests (point ∷ rest)) ≡ length (tests_at point) + length (placed_tests rest) = length-append (tests_at point) (placed_tests rest) in
     let own : length (tests_at point) ≡ length point.tests = length-map point.tests (λ (test : Test). record { point = point.name; test = test }) in
-    let more = tests-counted rest in
-    omega arith
+    all ∙ ap (λ n. n + length (placed_tests rest)) own ∙ ap (λ n. length point.tests + n) (tests-counted rest) ∙ sym (sum_by-cons (λ (p : Point). length p.tests) point rest)
 
 pub few-faults : (good : ℕ) (block : Block) (m : Matrix) → IsMatrixOfBlock good block m → length block.parts ≤ 64 → length m.faults ≤ 64
 few-faults good block m is few = let e = AllZip-long IsFaultOf block.parts m.faults is.faults in omega arith
