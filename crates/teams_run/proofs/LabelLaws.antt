@@ -1,15 +1,14 @@
 -- The labels of a matrix are those of the problem of its ambiguity groups.
 use Rattle.std.proofs.Common.{◌≡◌, ℕ, zero, suc, ◌+◌, ◌<◌, ◌≤◌, List, [], ◌∷◌, length, refl, sym, ap, ◌∙◌, arith, inl, inr, subst}
-use Rattle.std.specs.Prelude.{Bool, true, false, map, filter, nat_eq, cond, sum_by, All}
+use Rattle.std.specs.Prelude.{map, filter, nat_eq, sum_by, All}
 use Rattle.std.proofs.lemmas.Bool.{cases_Bool}
 use Rattle.std.proofs.lemmas.List.Sums.{sum_by-cons}
 use Rattle.std.proofs.lemmas.List.Elements.{All-nil, All-cons}
 use Rattle.seq_theory.specs.Problem.{Problem, count_up, weight_of}
-use Rattle.seq_theory.specs.States.{System, class_of, firsts, is_first, state_problem, IsOfClasses}
+use Rattle.seq_theory.specs.States.{class_of, firsts, is_first, state_problem, IsOfClasses}
 use Rattle.seq_theory.proofs.StatesLaws.{class_of-there}
 use Rattle.seq_theory.proofs.GroupLaws.{length-two_filters}
 use Rattle.sig_lines.specs.declared.labels.StateLabel.{StateLabel}
-use Rattle.sig_lines.specs.declared.labels.Labels.{Labels}
 use Rattle.sig_matrix.specs.declared.matrix.Matrix.{Matrix}
 use Rattle.sig_matrix.specs.Detection.{system_of, state_count, state_weight}
 use Rattle.sig_classes.specs.Labels.{labels_from, state_label}

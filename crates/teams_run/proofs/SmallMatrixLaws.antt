@@ -1,7 +1,6 @@
 -- The rows and columns that were made one by one are the matrix of the block, and it is valid.
-use Rattle.std.proofs.Common.{◌≡◌, ℕ, zero, suc, ◌+◌, ◌*◌, ◌/◌, ◌%◌, ◌<◌, ◌≤◌, List, [], ◌∷◌, length, get_or, refl, sym, ap, ◌∙◌, arith, inl, inr, subst, Some, None, Option}
-use Rattle.std.specs.Prelude.{Bool, true, false, nat_eq, slice_get, slice_index, slice_index_or, codes}
-use Rattle.std.specs.Int.{bit_at}
+use Rattle.std.proofs.Common.{◌≡◌, ℕ, zero, suc, ◌/◌, ◌%◌, ◌<◌, ◌≤◌, List, [], ◌∷◌, length, get_or, refl, sym, ap, ◌∙◌, arith, inl, inr, subst, Some, None}
+use Rattle.std.specs.Prelude.{false, nat_eq, slice_get, slice_index}
 use Rattle.std.specs.List.{AllZip}
 use Rattle.std.proofs.lemmas.Bool.{cases_lt}
 use Rattle.std.proofs.lemmas.Nat.Bits.{bit_at-zero}
@@ -9,15 +8,12 @@ use Rattle.std.proofs.lemmas.Option.{slice_get_within, slice_get-get_or}
 use Rattle.std.proofs.lemmas.Slice.Zip.{AllZip-long}
 use Rattle.sig_types.specs.Sets.{has_bit}
 use Rattle.sig_types.specs.declared.model.Block.{Block}
-use Rattle.sig_types.specs.declared.model.Link.{Link}
 use Rattle.sig_types.specs.declared.model.Part.{Part}
-use Rattle.sig_lines.specs.declared.labels.TestLabel.{TestLabel}
 use Rattle.sig_matrix.specs.declared.matrix.Matrix.{Matrix}
-use Rattle.sig_matrix.specs.declared.matrix.FaultRow.{FaultRow}
-use Rattle.sig_matrix.specs.Detection.{detects, no_row, no_label, before_faults, state_count}
+use Rattle.sig_matrix.specs.Detection.{detects, no_row, no_label}
 use Rattle.sig_matrix.specs.Valid.{IsValid}
-use Rattle.teams_run.specs.SmallMatrix.{PlacedTest, placed_tests, is_detected, IsFaultOf, IsTestOf, IsMatrixOfBlock}
-use Rattle.teams_run.specs.SmallRows.{IsRowOf, IsFaultRow, IsTestColumn, no_test}
+use Rattle.teams_run.specs.SmallMatrix.{placed_tests, is_detected, IsFaultOf, IsTestOf, IsMatrixOfBlock}
+use Rattle.teams_run.specs.SmallRows.{IsFaultRow, IsTestColumn, no_test}
 
 zip-at : {A B : Type 0} (R : A → B → Type 0) (xs : List A) (ys : List B) (i : ℕ) (d : A) (e : B) → AllZip R xs ys → i < length xs → R (get_or xs i d) (get_or ys i e)
 zip-at R [] ys i d e zipped there = absurd (let bad : ⊥ = omega arith in bad)
@@ -57,9 +53,8 @@ item-is xs i x d e = some-same (sym (slice_get-get_or xs i d (slice_get_within x
   some-same same = cc
 
 module _ (good : ℕ) (block : Block) (matrix : Matrix) (good_is : matrix.good ≡ good)
-  (faults : AllZip (IsFaultRow block.links (placed_tests block.points)) block.parts matrix.faults)
-  (columns : AllZip IsTestColumn (placed_tests block.points) matrix.tests) (few : length (placed_tests block.points) ≤ 6) where
-
+    (faults : AllZip (IsFaultRow block.links (placed_tests block.points)) block.parts matrix.faults)
+    (columns : AllZip IsTestColumn (placed_tests block.points) matrix.tests) (few : length (placed_tests block.points) ≤ 6) where
   row-at : (f : ℕ) (part : Part) → slice_get block.parts f ≡ Some part → IsFaultRow block.links (placed_tests block.points) part (get_or matrix.faults f no_row)
   row-at f part there =
       subst (λ p. IsFaultRow block.links (placed_tests block.points) p (get_or matrix.faults f no_row)) (item-is block.parts f part part there)
@@ -71,10 +66,10 @@ module _ (good : ℕ) (block : Block) (matrix : Matrix) (good_is : matrix.good �
     faults = zip-as _ IsFaultOf (λ part row r. r.fault) block.parts matrix.faults faults;
     tests = zip-as _ IsTestOf (λ placed column c. c.test) (placed_tests block.points) matrix.tests columns;
     detected = λ f t part placed at_part at_test.
-      let r = row-at f part at_part in
-      let there = slice_get_within (placed_tests block.points) t placed at_test in
-      first-bit (get_or matrix.faults f no_row).row r.word t r.words (omega arith) ∙ r.bits.detecting t there
-      ∙ ap (is_detected block.links part) (item-is (placed_tests block.points) t placed no_test at_test);
+        let r = row-at f part at_part in
+        let there = slice_get_within (placed_tests block.points) t placed at_test in
+        first-bit (get_or matrix.faults f no_row).row r.word t r.words (omega arith) ∙ r.bits.detecting t there
+        ∙ ap (is_detected block.links part) (item-is (placed_tests block.points) t placed no_test at_test);
   }
 
   tests-are : length matrix.tests ≡ length (placed_tests block.points)
@@ -101,10 +96,10 @@ module _ (good : ℕ) (block : Block) (matrix : Matrix) (good_is : matrix.good �
     faults = let e = faults-are in omega arith;
     tests = let e = tests-are in omega arith;
     weights = λ f there.
-      let e = faults-are in
-      (zip-at (IsFaultRow block.links (placed_tests block.points)) block.parts matrix.faults f (record { name = []; functional = None; general = None; stops = [] }) no_row faults (omega arith)).weighed;
+        let e = faults-are in
+        (zip-at (IsFaultRow block.links (placed_tests block.points)) block.parts matrix.faults f (record { name = []; functional = None; general = None; stops = [] }) no_row faults (omega arith)).weighed;
     costs = λ t there.
-      let e = tests-are in
-      (zip-at IsTestColumn (placed_tests block.points) matrix.tests t no_test no_label columns (omega arith)).costed;
+        let e = tests-are in
+        (zip-at IsTestColumn (placed_tests block.points) matrix.tests t no_test no_label columns (omega arith)).costed;
     nothing_else = no-more;
   }

@@ -1,7 +1,6 @@
 -- A row of bits that grows test by test: the tests below a number are decided, and no bit stands at or above it.
-use Rattle.std.proofs.Common.{◌≡◌, ◌≢◌, ℕ, ◌+◌, ◌*◌, ◌^◌, ◌%◌, ◌<◌, ◌≤◌, List, length, map, get_or, refl, sym, ap, ◌∙◌, arith, inl, inr, w64}
+use Rattle.std.proofs.Common.{◌≡◌, ℕ, ◌+◌, ◌*◌, ◌^◌, ◌%◌, ◌<◌, ◌≤◌, List, length, map, get_or, sym, ap, ◌∙◌, arith, inl, inr, w64}
 use Rattle.std.specs.Prelude.{Bool, true, false, nat_eq, bit_or}
-use Rattle.std.specs.Int.{bit_at}
 use Rattle.sig_types.specs.Sets.{has_bit}
 use Rattle.std.proofs.lemmas.Nat.Bits.{bit_at_set_same, bit_at_set_other, bit_at-zero}
 use Rattle.std.proofs.lemmas.Bool.{cases_eq}

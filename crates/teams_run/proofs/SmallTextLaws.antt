@@ -1,6 +1,6 @@
 -- A small text has one small block, so its matrix is small, and so few faults have few ambiguity groups.
-use Rattle.std.proofs.Common.{◌≡◌, ℕ, ◌+◌, ◌≤◌, List, [], ◌∷◌, length, map, get_or, refl, sym, ap, ◌∙◌, arith, inl, inr, length-append}
-use Rattle.std.specs.Prelude.{Bool, true, false, nat_eq, All}
+use Rattle.std.proofs.Common.{◌≡◌, ℕ, ◌+◌, ◌≤◌, List, [], ◌∷◌, length, get_or, refl, sym, ap, ◌∙◌, arith, inl, inr, length-append}
+use Rattle.std.specs.Prelude.{nat_eq, All}
 use Rattle.std.proofs.lemmas.Bool.{cases_Bool}
 use Rattle.std.proofs.lemmas.Slice.Zip.{AllZip-long}
 use Rattle.std.proofs.lemmas.List.Sums.{sum_by-cons}
@@ -11,9 +11,9 @@ use Rattle.sig_types.specs.declared.model.Point.{Point}
 use Rattle.sig_types.specs.declared.model.Test.{Test}
 use Rattle.sig_text.specs.SmallModel.{IsSmallModel, test_count}
 use Rattle.sig_matrix.specs.declared.matrix.Matrix.{Matrix}
-use Rattle.sig_matrix.specs.Detection.{before_faults, state_count, system_of}
+use Rattle.sig_matrix.specs.Detection.{before_faults, system_of}
 use Rattle.seq_theory.specs.States.{firsts}
-use Rattle.teams_run.specs.SmallMatrix.{PlacedTest, HasFault, placed_tests, tests_at, IsFaultOf, IsTestOf, IsMatrixOfBlock}
+use Rattle.teams_run.specs.SmallMatrix.{HasFault, placed_tests, tests_at, IsFaultOf, IsTestOf, IsMatrixOfBlock}
 use Rattle.teams_run.proofs.LabelLaws.{firsts-few}
 
 -- the block that is read is the one block

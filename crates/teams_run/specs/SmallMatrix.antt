@@ -1,6 +1,6 @@
 -- The matrix of a small block, in which each link leads from a part to a point: a test detects a fault where a link
 -- leads from the fault's part to the test's point, and some signal is both the fault's and the test's.
-use Rattle.std.specs.Prelude.{◌≡◌, ℕ, ◌<◌, ◌≤◌, Bool, ◌&&◌, false, List, [], ◌∷◌, ◌++◌, map, codes, length, Option, Some, None, slice_get}
+use Rattle.std.specs.Prelude.{◌≡◌, ℕ, Bool, ◌&&◌, List, [], ◌∷◌, ◌++◌, map, codes, Option, Some, None, slice_get}
 use Rattle.std.specs.List.{list_any, flat_map, AllZip}
 use Rattle.std.specs.Str.{bytes_eq}
 use Rattle.sig_types.specs.declared.model.Block.{Block}

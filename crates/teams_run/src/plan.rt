@@ -65,12 +65,7 @@ fn plan_for(alloc: Global, action: &str, model: &str) -> Result<Plan, PlanFault>
     }
 }
 
-fn plan_with(
-    alloc: Global,
-    action: &str,
-    model: &str,
-    option: &str,
-) -> Result<Plan, PlanFault>
+fn plan_with(alloc: Global, action: &str, model: &str, option: &str) -> Result<Plan, PlanFault>
     ensures found { IfOk result (λ plan. plan_with action.now model.now option.now ≡ Some plan) }
     ensures usage { IsErrOf result PlanFault.Usage → plan_with action.now model.now option.now ≡ None }
 {

@@ -1,4 +1,4 @@
-use Rattle.std.proofs.Common.{◌≡◌, ◌≤◌, length, sym, ap, subst, arith}
+use Rattle.std.proofs.Common.{◌≤◌, length, sym, subst, arith}
 use Rattle.std.specs.Prelude.{All}
 use Rattle.sig_types.specs.declared.model.Block.{Block}
 use Rattle.teams_run.specs.SmallMatrix.{HasFault, placed_tests, IsMatrixOfBlock}

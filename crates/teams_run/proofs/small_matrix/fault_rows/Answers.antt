@@ -1,8 +1,6 @@
-use Rattle.std.proofs.Common.{◌≡◌, ◌∙◌, ◌<◌, length, map, sym, ap, subst, arith, get_or, Some, None}
+use Rattle.std.proofs.Common.{◌≡◌, map, sym, subst, Some, None}
 use Rattle.std.specs.Prelude.{All}
-use Rattle.std.specs.List.{AllZip}
 use Rattle.std.proofs.lemmas.List.Elements.{All-get_or}
-use Rattle.sig_types.specs.declared.model.Part.{Part}
 use Rattle.teams_run.specs.SmallMatrix.{HasFault}
 use Rattle.teams_run.specs.PlacedTests.{placed_of}
 use Rattle.teams_run.specs.SmallRows.{IsFaultRow}

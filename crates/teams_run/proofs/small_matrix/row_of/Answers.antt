@@ -1,4 +1,4 @@
-use Rattle.std.proofs.Common.{◌≡◌, ◌∙◌, ◌+◌, ◌<◌, ℕ, Bool, true, false, length, map, sym, ap, subst, arith, get_or}
+use Rattle.std.proofs.Common.{◌≡◌, ◌∙◌, ◌+◌, ◌<◌, ℕ, Bool, length, map, sym, ap, subst, arith, get_or}
 use Rattle.teams_run.specs.SmallMatrix.{is_detected}
 use Rattle.teams_run.specs.PlacedTests.{placed_of}
 use Rattle.teams_run.specs.SmallRows.{no_test}

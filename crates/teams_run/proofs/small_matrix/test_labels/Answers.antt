@@ -1,4 +1,3 @@
-use Rattle.std.proofs.Common.{◌≡◌, ◌∙◌, ◌<◌, length, map, sym, ap, subst, arith, get_or}
 use Rattle.teams_run.specs.SmallRows.{IsTestColumn}
 use Rattle.teams_run.specs.PlacedTests.{placed_of}
 use Rattle.teams_run.proofs.ZipLaws.{zip-map-more}

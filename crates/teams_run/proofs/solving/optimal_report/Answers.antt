@@ -1,4 +1,4 @@
-use Rattle.std.proofs.Common.{◌≡◌, ◌∙◌, ℕ, sym, ap, subst, refl, None}
+use Rattle.std.proofs.Common.{◌≡◌, ◌∙◌, sym, ap, subst, refl, None}
 use Rattle.seq_theory.specs.Problem.{Problem, all_classes}
 use Rattle.seq_theory.specs.Tree.{Tree, tree_cost, IsLeast}
 use Rattle.seq_theory.specs.States.{System}
