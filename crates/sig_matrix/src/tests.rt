@@ -12,11 +12,14 @@ use sig_types::{List, Modes, Name, Signals, Text};
 use std::alloc::{AllocError, Global};
 use std::test::Fail;
 
-const BOX: &[u8] = b"teams matrix 1\nmode -\ntests 2\ntest 0 2 X/tA\ntest 1 1 Y/tB\nstates 3\nstate 6 00 good\nstate 3 10 A.f\nstate 1 01 B.f\nend\n";
+const BOX: &[u8] =
+    b"teams matrix 1\nmode -\ntests 2\ntest 0 2 X/tA\ntest 1 1 Y/tB\nstates 3\nstate 6 00 good\nstate 3 10 A.f\nstate 1 01 B.f\nend\n";
 
-const STOPPED: &[u8] = b"teams matrix 1\nmode -\ntests 1\ntest 0 1 X/t\nstates 3\nstate 1 0 good\nstate 2 0 A.f\nstate 1 1 A.g\nend\n";
+const STOPPED: &[u8] =
+    b"teams matrix 1\nmode -\ntests 1\ntest 0 1 X/t\nstates 3\nstate 1 0 good\nstate 2 0 A.f\nstate 1 1 A.g\nend\n";
 
-const ROUND: &[u8] = b"teams matrix 1\nmode normal\ntests 1\ntest 0 1 X/t\nstates 3\nstate 1 0 good\nstate 2 1 A.f\nstate 1 1 A.g\nend\n";
+const ROUND: &[u8] =
+    b"teams matrix 1\nmode normal\ntests 1\ntest 0 1 X/t\nstates 3\nstate 1 0 good\nstate 2 1 A.f\nstate 1 1 A.g\nend\n";
 
 /// A matrix of two faults and two tests.
 fn box_of_two(alloc: Global) -> Result<Matrix, AllocError>
