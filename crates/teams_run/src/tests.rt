@@ -130,7 +130,7 @@ fn faults(rt: HostRuntime) -> Result<(), Fail> {
 fn lengths(rt: HostRuntime) -> Result<(), Fail> {
     let alloc = rt.alloc();
     let mut text = Vec::from_slice(alloc, BOX.as_bytes())?;
-    while text.len() < 1_048_576 {
+    for _ in BOX.len()..1_048_576 {
         text.push(b'\n')?;
     }
     let (status, wrote) = solved(alloc, text.as_slice())?;
