@@ -6,14 +6,14 @@ use Rattle.seq_theory.specs.Tree.{Tree, Solves}
 use Rattle.seq_theory.specs.Bound.{bound}
 use Rattle.seq_theory.specs.Greedy.{one_step, greedy, greedy_cost}
 use Rattle.seq_theory.specs.Huffman.{huff}
-use Rattle.seq_theory.proofs.PublicLaws.{bounds_hold}
+use Rattle.seq_theory.proofs.PublicLaws.{bounds_hold, has_least}
 use Rattle.seq_theory.proofs.HuffmanLaws.{huffman_is_least}
 use Rattle.seq_theory.proofs.GreedyLaws.{bound-le-one_step, greedy-solves}
 use Rattle.seq_theory.proofs.LeastOfLaws.{lesser}
 use Rattle.seq_theory.proofs.WantedLaws.{one_step-wanted}
 use Rattle.seq_inst.specs.declared.instance.Instance.{Instance}
 use Rattle.seq_inst.specs.Instances.{problem_of}
-use Rattle.seq_huff.specs.Bounds.{UndercutsTrees, IsAtMostLeast, IsAtLeastLeast, WantsParts}
+use Rattle.seq_huff.specs.Bounds.{UndercutsTrees, IsAtMostLeast, IsAtLeastLeast, WantsParts, greatest_cost}
 use Rattle.seq_huff.specs.Choice.{lesser_number}
 
 pub weighed : (inst : Instance) → IsWeighed (problem_of inst)
@@ -29,16 +29,23 @@ bound-low inst group n within is least l =
     let f2 = b.one_step_low in
     omega arith
 
-pub one_step-holds : (inst : Instance) (group : List ℕ) (n : ℕ) → IsWithin (problem_of inst) group → n ≡ one_step (problem_of inst) group → record {
+pub one_step-holds : (inst : Instance) (group : List ℕ) (n : ℕ) → IsWithin (problem_of inst) group → n ≡ one_step (problem_of inst) group → greedy_cost (problem_of inst) group ≤ greatest_cost → record {
   value : n ≡ one_step (problem_of inst) group;
   above : bound (problem_of inst) group ≤ n;
   low : IsAtMostLeast (problem_of inst) group n;
   wanted : WantsParts (problem_of inst) group n;
+  fits : n ≤ greatest_cost;
 }
-one_step-holds inst group n within is = record {
+one_step-holds inst group n within is small = record {
   value = is;
   above = (let f = bound-le-one_step (problem_of inst) group in omega arith);
   low = λ least l. let f = (bounds_hold (problem_of inst) group least (weighed inst) inst.valid.told within l).one_step_low in omega arith;
+  fits =
+      (let some = has_least (problem_of inst) group inst.valid.told within in
+      let stand = bounds_hold (problem_of inst) group some.0 (weighed inst) inst.valid.told within some.1 in
+      let below = stand.one_step_low in
+      let above = stand.greedy_high in
+      omega arith);
   wanted = λ t passed wanted e there s le. one_step-wanted (problem_of inst) group t passed (weighed inst) inst.valid.told wanted e there s (omega arith);
 }
 

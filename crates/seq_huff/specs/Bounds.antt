@@ -22,3 +22,8 @@ IsAtLeastLeast p group n = (least : ℕ) → IsLeast p group least → least ≤
 -- parts
 abbrev pub WantsParts : Problem → List ℕ → ℕ → Type 0
 WantsParts p group n = (t : ℕ) (passed : Bool) → IsWanted p group → is_end p group ≡ false → t < p.tests → splits p group t ≡ true → step_sum p (bound p) group t ≤ n → IsWanted p (part p t passed group)
+
+-- no bound and no greedy cost of a group is above it: 512 tests of 1,000,000 each for a weight of 4,097,000,000. Three such
+-- numbers fit a word together
+abbrev pub greatest_cost : ℕ
+greatest_cost = 2097664000000000000

@@ -8,7 +8,7 @@ ghost use Rattle.seq_inst.specs.Members.{members};
 ghost use Rattle.seq_inst.specs.Instances.{problem_of};
 ghost use Rattle.seq_inst.specs.Trees.{tree_of};
 ghost use Rattle.seq_inst.specs.Shapes.{height, leaf_count, AsksSplitting};
-ghost use Rattle.seq_huff.specs.Bounds.{IsAtLeastLeast};
+ghost use Rattle.seq_huff.specs.Bounds.{IsAtLeastLeast, greatest_cost};
 ghost use Rattle.seq_huff.specs.Choice.{lesser_choice};
 
 use crate::scratch::Scratch;
@@ -59,6 +59,7 @@ pub fn greedy_cost(scratch: &mut Scratch, inst: &Instance, group: &Group) -> u64
     requires { IsWithin (problem_of inst.now) (members group.now) }
     ensures value { result ≡ cost_of_greedy (problem_of inst.now) (members group.now) }
     ensures high { IsAtLeastLeast (problem_of inst.now) (members group.now) result }
+    ensures fits { result ≤ greatest_cost }
 {
     if is_leaf(inst, group) {
         return 0;

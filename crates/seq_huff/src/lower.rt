@@ -6,7 +6,7 @@ ghost use Rattle.seq_theory.specs.Problem.{IsWithin, splitting};
 ghost use Rattle.seq_theory.specs.Bound.{sum_first, next_after, bound as bound_of};
 ghost use Rattle.seq_inst.specs.Members.{members};
 ghost use Rattle.seq_inst.specs.Instances.{problem_of};
-ghost use Rattle.seq_huff.specs.Bounds.{IsAtMostLeast};
+ghost use Rattle.seq_huff.specs.Bounds.{IsAtMostLeast, greatest_cost};
 
 use crate::merging::sort_upward;
 use crate::scratch::Scratch;
@@ -60,6 +60,7 @@ pub fn bound(scratch: &mut Scratch, inst: &Instance, group: &Group) -> u64
     requires { IsWithin (problem_of inst.now) (members group.now) }
     ensures value { result ≡ bound_of (problem_of inst.now) (members group.now) }
     ensures low { IsAtMostLeast (problem_of inst.now) (members group.now) result }
+    ensures fits { result ≤ greatest_cost }
 {
     if is_leaf(inst, group) {
         return 0;

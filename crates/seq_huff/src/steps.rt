@@ -6,7 +6,7 @@ ghost use Rattle.seq_theory.specs.Bound.{step_sum as step_sum_of, bound as bound
 ghost use Rattle.seq_theory.specs.Greedy.{one_step as one_step_of};
 ghost use Rattle.seq_inst.specs.Members.{members};
 ghost use Rattle.seq_inst.specs.Instances.{problem_of};
-ghost use Rattle.seq_huff.specs.Bounds.{IsAtMostLeast, WantsParts};
+ghost use Rattle.seq_huff.specs.Bounds.{IsAtMostLeast, WantsParts, greatest_cost};
 ghost use Rattle.seq_huff.specs.Choice.{lesser_number};
 
 use crate::lower::bound;
@@ -51,6 +51,7 @@ pub fn one_step(scratch: &mut Scratch, inst: &Instance, group: &Group) -> u64
     ensures above { bound_of (problem_of inst.now) (members group.now) ≤ result }
     ensures low { IsAtMostLeast (problem_of inst.now) (members group.now) result }
     ensures wanted { WantsParts (problem_of inst.now) (members group.now) result }
+    ensures fits { result ≤ greatest_cost }
 {
     if is_leaf(inst, group) {
         return 0;

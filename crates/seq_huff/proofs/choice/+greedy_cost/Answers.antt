@@ -1,4 +1,4 @@
-use Rattle.std.proofs.Common.{◌≡◌, ◌∙◌, ◌+◌, ◌*◌, sym, ap, arith, refl}
+use Rattle.std.proofs.Common.{◌≡◌, ◌∙◌, ◌+◌, ◌*◌, ◌≤◌, sym, ap, subst, arith, refl}
 use Rattle.std.proofs.lemmas.List.{get_or_read}
 use Rattle.seq_theory.specs.Problem.{fail_part}
 use Rattle.seq_inst.specs.Members.{members}
@@ -6,6 +6,7 @@ use Rattle.seq_inst.specs.Instances.{problem_of}
 use Rattle.seq_inst.proofs.SolveLaws.{light}
 use Rattle.seq_huff.proofs.BoundFits.{product-le}
 use Rattle.seq_huff.proofs.GreedyCode.{cost-end, greedy_there, greedy_parts, greedy-small}
+use Rattle.seq_huff.specs.Bounds.{greatest_cost}
 use Rattle.seq_huff.proofs.LeastBounds.{greedy-high}
 use Rattle.seq_theory.specs.Greedy.{greedy_cost}
 use Rattle.seq_huff.proofs.choice.+greedy_cost.Goals as goal
@@ -13,7 +14,7 @@ use Rattle.seq_huff.proofs.choice.+greedy_cost.Goals as goal
 pub returns-then-is_leaf : goal.returns-then-is_leaf
 returns-then-is_leaf t c =
     let value = cost-end (problem_of c.args.inst.now) (members c.args.group.now) c.args.inst.now.valid.told c.requires (sym c.is_leaf.ensures ∙ c.if-is_leaf.true) in
-    record { value = value; high = greedy-high c.args.inst.now (members c.args.group.now) 0 c.requires value }
+    record { value = value; high = greedy-high c.args.inst.now (members c.args.group.now) 0 c.requires value; fits = omega arith }
 
 pub part-pass_part-requires : goal.part-pass_part-requires
 part-pass_part-requires t c =
@@ -126,4 +127,5 @@ returns t c =
     let eb = c.greedy_cost-fail.ensures.value in
     let total = g.cost in
     let value : c.from.result * c.weight_of-weight.result + (c.greedy_cost-pass.result + c.greedy_cost-fail.result) ≡ greedy_cost p xs = omega arith in
-    record { value = value; high = greedy-high c.args.inst.now xs _ c.requires value }
+    let small = greedy-small c.args.inst.now c.args.group.now c.requires in
+    record { value = value; high = greedy-high c.args.inst.now xs _ c.requires value; fits = subst (λ n. n ≤ greatest_cost) (sym value) small }

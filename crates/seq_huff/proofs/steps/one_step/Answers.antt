@@ -6,6 +6,7 @@ use Rattle.seq_inst.specs.Members.{members}
 use Rattle.seq_inst.specs.Instances.{problem_of}
 use Rattle.seq_huff.proofs.Written.{passing_below, passing-zero, passing-in, passing-out, passing-all}
 use Rattle.seq_huff.proofs.BoundFits.{one_step-end, one_step-is}
+use Rattle.seq_huff.proofs.GreedyCode.{greedy-small}
 use Rattle.seq_huff.proofs.LeastBounds.{lesser-number, one_step-holds}
 use Rattle.seq_huff.proofs.steps.one_step.Goals as goal
 use Rattle.seq_huff.proofs.steps.one_step.Goals.{then-splits, else-splits}
@@ -13,7 +14,7 @@ use Rattle.seq_huff.proofs.steps.one_step.Goals.{then-splits, else-splits}
 pub returns-then-is_leaf : goal.returns-then-is_leaf
 returns-then-is_leaf c =
     let value = one_step-end (problem_of c.args.inst.now) (members c.args.group.now) (sym c.is_leaf.ensures ∙ c.if-is_leaf.true) in
-    one_step-holds c.args.inst.now (members c.args.group.now) 0 c.requires value
+    one_step-holds c.args.inst.now (members c.args.group.now) 0 c.requires value (greedy-small c.args.inst.now c.args.group.now c.requires)
 
 pub loop-test-init : goal.loop-test-init
 loop-test-init c =
@@ -46,4 +47,4 @@ returns c =
     let e : c.loop-test.test ≡ p.tests = omega arith in
     let i : LeastSoFar f (splitting p xs) c.loop-test.least = subst (λ l. LeastSoFar f l c.loop-test.least) (ap (passing_below (splits p xs)) e ∙ passing-all (splits p xs) p.tests) c.loop-test.invariant in
     let value = c.max.ensures ∙ one_step-is p xs c.bound-low.result c.unwrap_or.result (sym c.is_leaf.ensures ∙ c.if-is_leaf.false) c.bound-low.ensures.value (c.unwrap_or.ensures ∙ least_so_far-all f (splitting p xs) c.loop-test.least i) in
-    one_step-holds c.args.inst.now xs _ c.requires value
+    one_step-holds c.args.inst.now xs _ c.requires value (greedy-small c.args.inst.now c.args.group.now c.requires)
