@@ -2,6 +2,8 @@ ghost use Rattle.std.specs.Prelude.{◌≡◌, [], IfOk, IfErr};
 ghost use Rattle.sig_types.specs.Breaches.{breaches, known_modes};
 ghost use Rattle.sig_types.specs.Refused.{TellsFirst};
 
+mod names;
+
 use crate::model::Model;
 use crate::refusals::ModelFault;
 use crate::valid::Valid;

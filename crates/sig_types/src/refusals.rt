@@ -1,4 +1,4 @@
-use std::alloc::AllocError;
+use std::alloc::{AllocError, AllocFailed};
 use thiserror::Error;
 
 /// Why a text or a model is refused, and where.
@@ -107,6 +107,17 @@ impl From<AllocError> for ModelFault {
     ghost from_gives = { λ _ fault. fault ≡ OutOfMemory };
 
     fn from(_fault: AllocError) -> ModelFault {
+        ModelFault::OutOfMemory
+    }
+}
+
+impl<T: Drop> From<AllocFailed<T>> for ModelFault {
+    ghost use Rattle.std.specs.Prelude.{◌≡◌};
+    ghost use Rattle.sig_types.specs.declared.refusals.ModelFault.TheVariants.{OutOfMemory};
+
+    ghost from_gives = { λ _ fault. fault ≡ OutOfMemory };
+
+    fn from(_fault: AllocFailed<T>) -> ModelFault {
         ModelFault::OutOfMemory
     }
 }
