@@ -6,9 +6,9 @@ use Rattle.sig_types.specs.declared.refusals.Refusal.{Refusal}
 use Rattle.sig_types.specs.declared.refusals.Place.{Place}
 use Rattle.sig_types.specs.declared.refusals.Code.TheVariants.{M07}
 use Rattle.sig_types.specs.declared.refusals.ModelFault.{ModelFault}
-use Rattle.sig_types.specs.Breaches.{Named, named, names_of, each, each_from, breach_if, has, repeats_after}
+use Rattle.sig_types.specs.Breaches.{Named, named, names_of, each, each_from, breach_if, has, repeats, repeats_after}
 use Rattle.sig_types.specs.Refused.{TellsFirst}
-use Rattle.sig_types.proofs.VerdictLaws.{tells-left}
+use Rattle.sig_types.proofs.VerdictLaws.{none-in_both, tells-left, tells-right}
 
 -- the scope that a list of items is
 abbrev pub scope : {T : Type 0} → (T → List ℕ) → (ℕ → Place) → ℕ → List T → List Named
@@ -40,7 +40,7 @@ module _ {T : Type 0} (name_of : T → List ℕ) (place : ℕ → Place) (old : 
         let none : breach_if (has now (name_of (get_or items i x))) M07 (place i) ≡ [] = subst (λ y. breach_if (has now (name_of y)) M07 (place i) ≡ []) e good in
         let more : next ≡ now ++ name_of (get_or items i x) ∷ [] = subst (λ y. next ≡ now ++ name_of y ∷ []) e grown in
         let longer : map name_of (take (suc i) items) ≡ map name_of (take i items) ++ name_of (get_or items i x) ∷ [] =
-            ap (map name_of) (take-suc items i x h) ∙ map-append name_of (take i items) (get_or items i x ∷ []) in
+        ap (map name_of) (take-suc items i x h) ∙ map-append name_of (take i items) (get_or items i x ∷ []) in
         rw add-one (record {
           keys = more ∙ ap (λ l. l ++ name_of (get_or items i x) ∷ []) before.keys ∙ append_assoc old (map name_of (take i items)) (name_of (get_or items i x) ∷ []) ∙ ap (λ l. old ++ l) (sym longer);
           left = splits x h ∙ ap₂ (λ l m. l ++ repeats_after m (scope name_of place (suc i) (drop (suc i) items))) none (sym more);
@@ -64,3 +64,29 @@ repeats-append old (x ∷ a) b =
 pub names-scope : {T : Type 0} (name_of : T → List ℕ) (place : ℕ → Place) (k : ℕ) (items : List T) → names_of (scope name_of place k items) ≡ map name_of items
 names-scope name_of place k [] = refl
 names-scope name_of place k (x ∷ items) = ap (λ l. name_of x ∷ l) (names-scope name_of place (suc k) items)
+
+-- the items of a scope are taken, and none of their names repeats
+pub record IsTaken (done : List Named) (now : List (List ℕ)) : Type 0 where
+  pub keys : now ≡ names_of done
+  pub none : repeats done ≡ []
+
+pub taken-none : (now : List (List ℕ)) → now ≡ [] → IsTaken [] now
+taken-none now e = record { keys = e; none = refl }
+
+module _ {T : Type 0} (name_of : T → List ℕ) (place : ℕ → Place) (items : List T) (done : List Named) (now : List (List ℕ)) (taken : IsTaken done now) where
+  grows : repeats (done ++ scope name_of place 0 items) ≡ repeats done ++ repeats_after now (scope name_of place 0 items)
+  grows = repeats-append [] done (scope name_of place 0 items) ∙ ap (λ l. repeats done ++ repeats_after l (scope name_of place 0 items)) (sym taken.keys)
+
+  pub taken-more : (next : List (List ℕ)) → next ≡ now ++ map name_of items → repeats_after now (scope name_of place 0 items) ≡ [] → IsTaken (done ++ scope name_of place 0 items) next
+  taken-more next e none = record {
+    keys = e ∙ ap₂ (λ l m. l ++ m) taken.keys (sym (names-scope name_of place 0 items)) ∙ sym (map-append (λ (x : Named). x.name) done (scope name_of place 0 items));
+    none = grows ∙ none-in_both (repeats done) (repeats_after now (scope name_of place 0 items)) taken.none none;
+  }
+
+  pub taken-tells : (fault : ModelFault) → TellsFirst (repeats_after now (scope name_of place 0 items)) fault → TellsFirst (repeats (done ++ scope name_of place 0 items)) fault
+  taken-tells fault h = subst (λ l. TellsFirst l fault) (sym grows) (tells-right (repeats done) (repeats_after now (scope name_of place 0 items)) fault taken.none h)
+
+-- a repeat among the first scopes is the first of all
+pub tells-earlier : (done part : List Named) (fault : ModelFault) → TellsFirst (repeats done) fault → TellsFirst (repeats (done ++ part)) fault
+tells-earlier done part fault h =
+    subst (λ l. TellsFirst l fault) (sym (repeats-append [] done part)) (tells-left (repeats done) (repeats_after (names_of done) part) fault h)

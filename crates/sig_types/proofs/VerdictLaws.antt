@@ -1,6 +1,6 @@
 -- How a verdict on many breaches is put together: what comes first is refused first, and what has no breach is passed
 -- over. A loop over a list keeps that the breaches of the whole are those of what is left (`AreChecked`).
-use Rattle.std.proofs.Common.{◌≡◌, ℕ, suc, ◌+◌, ◌<◌, ◌≤◌, List, [], ◌∷◌, ◌++◌, length, get_or, drop, Result, Ok, Err, Some, refl, sym, ap, subst, ◌∙◌, arith, add-one, drop-cons}
+use Rattle.std.proofs.Common.{◌≡◌, ℕ, suc, ◌+◌, ◌<◌, ◌≤◌, List, [], ◌∷◌, ◌++◌, length, get_or, drop, Result, Ok, Err, Some, refl, sym, ap, ap₂, subst, ◌∙◌, arith, add-one, drop-cons}
 use Rattle.std.proofs.lemmas.List.{drop_all}
 use Rattle.std.specs.Result.{IsErr, IsErrAnd}
 use Rattle.sig_types.specs.declared.refusals.Refusal.{Refusal}
@@ -21,6 +21,10 @@ tells-left a b OutOfMemory h = tt
 -- where the first part has no breach, a fault of the second is one of the whole
 pub tells-right : (a b : List Refusal) (fault : ModelFault) → a ≡ [] → TellsFirst b fault → TellsFirst (a ++ b) fault
 tells-right a b fault none h = subst (λ l. TellsFirst (l ++ b) fault) (sym none) h
+
+-- two parts without a breach
+pub none-in_both : (a b : List Refusal) → a ≡ [] → b ≡ [] → a ++ b ≡ []
+none-in_both a b ea eb = ap₂ (λ l m. l ++ m) ea eb
 
 -- a fault that is handed on is the same
 pub handed-on : {X : Type 0} (breaches : List Refusal) (r : Result X ModelFault) (fault : ModelFault) → IsErrAnd r (λ e. e ≡ fault) → TellsFirst breaches fault → IsVerdict {X = X} breaches r

@@ -1,13 +1,16 @@
 -- Where the names of a list stand, and what is looked up under a name.
-use Rattle.std.specs.Prelude.{ℕ, List, [], ◌∷◌, Option, Some, None, if◌then◌else◌}
+use Rattle.std.specs.Prelude.{ℕ, List, [], ◌∷◌, ◌++◌, Option, Some, None, if◌then◌else◌}
 use Rattle.std.specs.Str.{bytes_eq}
 use Rattle.sig_types.specs.declared.model.Used.{Used}
+use Rattle.sig_types.specs.declared.model.Model.{Model}
+use Rattle.sig_types.specs.declared.model.Block.{Block}
+use Rattle.sig_types.specs.declared.refusals.Refusal.{Refusal}
 use Rattle.sig_types.specs.declared.refusals.Place.{Place}
 use Rattle.sig_types.specs.declared.refusals.Place.TheVariants.{In}
-use Rattle.sig_types.specs.declared.refusals.Key.TheVariants.{Name}
+use Rattle.sig_types.specs.declared.refusals.Key.TheVariants.{Name, Signals, Modes}
 use Rattle.sig_types.specs.declared.check.names.Places.{Places}
 use Rattle.sig_types.specs.declared.check.names.Places.TheVariants.{Elements, Items, Tests, Blocks}
-use Rattle.sig_types.specs.Breaches.{in_block, in_item, in_test}
+use Rattle.sig_types.specs.Breaches.{in_block, in_document, in_item, in_test, each, named, repeats}
 
 -- the place of the name of this number in its list
 abbrev pub place_at : Places → ℕ → Place
@@ -20,3 +23,15 @@ place_at Blocks k = in_block k Name None
 abbrev pub used_block : List Used → List ℕ → Option (List ℕ)
 used_block [] name = None
 used_block (u ∷ rest) name = if bytes_eq name u.name then Some u.block else used_block rest name
+
+-- the breaches of names that repeat among the signals, the modes and the blocks
+abbrev pub repeated_at_top : Model → List Refusal
+repeated_at_top model =
+    repeats (each (λ k n. named n (in_document Signals (Some k))) model.signals)
+    ++ repeats (each (λ k n. named n (in_document Modes (Some k))) model.modes)
+    ++ repeats (each (λ b (block : Block). named block.name (in_block b Name None)) model.blocks)
+
+-- a block with its number among the blocks
+pub record Numbered : Type 0 where
+  pub number : ℕ
+  pub block : Block

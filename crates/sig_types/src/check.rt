@@ -2,7 +2,11 @@ ghost use Rattle.std.specs.Prelude.{◌≡◌, [], IfOk, IfErr};
 ghost use Rattle.sig_types.specs.Breaches.{breaches, known_modes};
 ghost use Rattle.sig_types.specs.Refused.{TellsFirst};
 
+mod block;
+mod index;
+mod link;
 mod names;
+mod scope;
 
 use crate::model::Model;
 use crate::refusals::ModelFault;

@@ -1,0 +1,171 @@
+//! The rules of a block, in the order in which they are looked at: names that repeat, then parts, uses, tests and links.
+//! A block is checked on its own; of other blocks only the names and the ports count.
+ghost use Rattle.std.specs.Prelude.{◌≡◌, Some, None};
+ghost use Rattle.sig_types.specs.Breaches.{block_breaches, each, in_test, mode_breaches, named, part_breaches, repeats, test_breaches, use_breaches};
+ghost use Rattle.sig_types.specs.Refused.{IsVerdict};
+ghost use Rattle.sig_types.specs.declared.model.Point.{Point};
+ghost use Rattle.sig_types.specs.declared.model.Test.{Test};
+ghost use Rattle.sig_types.specs.declared.refusals.Key.TheVariants.{Name as NameKey};
+ghost use Rattle.sig_types.specs.declared.check.names.Places.TheVariants.{Elements};
+
+use crate::check::index::Index;
+use crate::check::link::check_links;
+use crate::check::names::{Places, check_known, number_names, refuse_if};
+use crate::check::scope::Scope;
+use crate::model::{Block, Part, Point, Test, Used};
+use crate::name::Name;
+use crate::refusals::{Code, Key, Kind, ModelFault, Place};
+use std::alloc::Global;
+
+/// The elements of a key of an item, or of a test of a point.
+fn elements(block: u64, item: (Kind, u64), test: Option<u64>, key: Key) -> Places
+    ensures { result ≡ Elements (Some block) (Some item) test key }
+{
+    Places::Elements {
+        block: Some(block),
+        item: Some(item),
+        test,
+        key,
+    }
+}
+
+/// Looks for names that repeat among the tests of a point.
+fn check_test_names(alloc: Global, block: u64, points: &[Point]) -> Result<(), ModelFault>
+    ensures { IsVerdict (each (λ p (point : Point). repeats (each (λ t (test : Test). named test.name (in_test block p t NameKey None)) point.tests)) points.now) result }
+{
+    for (p, point) in points.iter().enumerate() {
+        let places = Places::Tests {
+            block,
+            point: p as u64,
+        };
+        number_names(alloc, point.tests.as_slice(), places)?;
+    }
+    Ok(())
+}
+
+fn check_part(index: &Index, block: u64, number: u64, part: &Part) -> Result<(), ModelFault>
+    ensures { IsVerdict (part_breaches index.now block number part.now) result }
+{
+    let item = (Kind::Part, number);
+    if let Some(functional) = &part.functional {
+        check_known(
+            index.signals(),
+            functional.signals.as_slice(),
+            elements(block, item, None, Key::Signals),
+        )?;
+    }
+    check_known(
+        index.signals(),
+        part.stops.as_slice(),
+        elements(block, item, None, Key::Stops),
+    )
+}
+
+fn check_parts(index: &Index, block: u64, parts: &[Part]) -> Result<(), ModelFault>
+    ensures { IsVerdict (each (part_breaches index.now block) parts.now) result }
+{
+    for (k, part) in parts.iter().enumerate() {
+        check_part(index, block, k as u64, part)?;
+    }
+    Ok(())
+}
+
+/// A use is of a block that stands before its own.
+fn check_use(index: &Index, block: u64, number: u64, used: &Used) -> Result<(), ModelFault>
+    ensures { IsVerdict (use_breaches index.now block number used.now) result }
+{
+    let place = Place::In {
+        block: Some(block),
+        item: Some((Kind::Use, number)),
+        test: None,
+        key: Some(Key::Block),
+        element: None,
+    };
+    match index.block_number(&used.block) {
+        Some(other) => refuse_if(block <= other as u64, Code::M10, place),
+        None => refuse_if(true, Code::M08, place),
+    }
+}
+
+fn check_uses(index: &Index, block: u64, uses: &[Used]) -> Result<(), ModelFault>
+    ensures { IsVerdict (each (use_breaches index.now block) uses.now) result }
+{
+    for (k, used) in uses.iter().enumerate() {
+        check_use(index, block, k as u64, used)?;
+    }
+    Ok(())
+}
+
+/// A test names a mode that is known, or none.
+fn check_mode(index: &Index, mode: &Option<Name>, place: Place) -> Result<(), ModelFault>
+    ensures { IsVerdict (mode_breaches index.now place mode.now) result }
+{
+    match mode {
+        Some(mode) => refuse_if(!index.modes().contains(mode), Code::M08, place),
+        None => Ok(()),
+    }
+}
+
+fn check_test(
+    index: &Index,
+    block: u64,
+    point: u64,
+    number: u64,
+    test: &Test,
+) -> Result<(), ModelFault>
+    ensures { IsVerdict (test_breaches index.now block point number test.now) result }
+{
+    let item = (Kind::Point, point);
+    check_known(
+        index.signals(),
+        test.signals.as_slice(),
+        elements(block, item, Some(number), Key::Signals),
+    )?;
+    let place = Place::In {
+        block: Some(block),
+        item: Some(item),
+        test: Some(number),
+        key: Some(Key::Mode),
+        element: None,
+    };
+    check_mode(index, &test.mode, place)
+}
+
+fn check_tests(index: &Index, block: u64, point: u64, tests: &[Test]) -> Result<(), ModelFault>
+    ensures { IsVerdict (each (test_breaches index.now block point) tests.now) result }
+{
+    for (t, test) in tests.iter().enumerate() {
+        check_test(index, block, point, t as u64, test)?;
+    }
+    Ok(())
+}
+
+fn check_points(index: &Index, block: u64, points: &[Point]) -> Result<(), ModelFault>
+    ensures { IsVerdict (each (λ p (point : Point). each (test_breaches index.now block p) point.tests) points.now) result }
+{
+    for (p, point) in points.iter().enumerate() {
+        check_tests(index, block, p as u64, point.tests.as_slice())?;
+    }
+    Ok(())
+}
+
+/// Looks at one block. Takes a look-up for each name that stands in it.
+fn check_block(alloc: Global, index: &Index, number: u64, block: &Block) -> Result<(), ModelFault>
+    ensures { IsVerdict (block_breaches index.now number block.now) result }
+{
+    let scope = Scope::of(alloc, number, block)?;
+    check_test_names(alloc, number, block.points.as_slice())?;
+    check_parts(index, number, block.parts.as_slice())?;
+    check_uses(index, number, block.uses.as_slice())?;
+    check_points(index, number, block.points.as_slice())?;
+    check_links(index, &scope)
+}
+
+pub(crate) fn check_blocks(alloc: Global, index: &Index, blocks: &[Block]) -> Result<(), ModelFault>
+    ensures { IsVerdict (each (block_breaches index.now) blocks.now) result }
+{
+    for (b, block) in blocks.iter().enumerate() {
+        check_block(alloc, index, b as u64, block)?;
+    }
+    Ok(())
+}
