@@ -1,6 +1,7 @@
 -- What sets and maps of names find, against the lists that they were made of.
-use Rattle.std.proofs.Common.{◌≡◌, ℕ, zero, suc, ◌<◌, Bool, true, false, cond, ◌||◌, List, [], ◌∷◌, ◌++◌, length, map, get_or, Some, refl, sym, ap, ◌∙◌, inl, inr, true≢false, arith}
-use Rattle.std.specs.List.{list_any, position}
+use Rattle.std.proofs.Common.{◌≡◌, ℕ, zero, suc, ◌<◌, Bool, true, false, cond, ◌||◌, List, [], ◌∷◌, ◌++◌, length, map, nat_lt, get_or, if◌then◌else◌, Some, None, refl, sym, ap, ◌∙◌, inl, inr, true≢false, arith}
+use Rattle.std.specs.List.{list_any, position, position_or_len}
+use Rattle.std.specs.Option.{is_some}
 use Rattle.std.proofs.lemmas.List.Quantifiers.{position-Some}
 use Rattle.std.specs.Str.{bytes_eq}
 use Rattle.std.proofs.lemmas.Bool.{cases_Bool}
@@ -9,7 +10,9 @@ use Rattle.std.proofs.lemmas.Slice.Eq.{bytes_eq-Decides}
 use Rattle.std.proofs.lemmas.Bool.Decides.{same_from_decides, Decides-like}
 use Rattle.indexmap.specs.IndexSet.{insert_key, insert_all}
 use Rattle.sig_types.specs.declared.model.Block.{Block}
-use Rattle.sig_types.specs.Breaches.{has, has_port}
+use Rattle.sig_types.specs.declared.model.Used.{Used}
+use Rattle.sig_types.specs.Breaches.{block_of_use, has, has_port}
+use Rattle.sig_types.specs.Lookups.{used_block}
 
 -- it does not matter which of two names stands first
 pub bytes_eq-swap : (a b : List ℕ) → bytes_eq a b ≡ bytes_eq b a
@@ -73,3 +76,35 @@ pub port-by-number : (blocks : List Block) (names : List (List ℕ)) (sets : Lis
 port-by-number blocks names sets name port i set named made at picked =
     let found = position-Some (bytes_eq name) (map name_of blocks) i [] (ap (position (bytes_eq name)) (sym named) ∙ at) in
     port-found blocks name port i found.1 found.0 found.2 ∙ ap (λ l. has (get_or l i []) port) (sym made) ∙ ap (λ l. has l port) (sym picked)
+
+-- the place of the first name, as a number
+pub position-index : {X : Type 0} (p : X → Bool) (xs : List X) (i : ℕ) → position p xs ≡ Some i → position_or_len p xs ≡ i
+position-index p xs i at = elim (cases_Bool (nat_lt (position_or_len p xs) (length xs))) [
+  | inl y ↦ let e : Some (position_or_len p xs) ≡ Some i = sym (ap (λ b. cond b (Some (position_or_len p xs)) None) y) ∙ at in cc
+  | inr n ↦ let e : None ≡ Some i = sym (ap (λ b. cond b (Some (position_or_len p xs)) None) n) ∙ at in cc
+]
+
+-- whether a use has the name
+abbrev pub any_use : List Used → List ℕ → Bool
+any_use uses name = list_any (λ (u : Used). bytes_eq u.name name) uses
+
+-- a use of the name, and the block that it uses
+pub use-some : (uses : List Used) (name : List ℕ) → any_use uses name ≡ is_some (used_block uses name)
+use-some [] name = refl
+use-some (u ∷ uses) name = elim (cases_Bool (bytes_eq name u.name)) [
+  | inl y ↦ rw (bytes_eq-swap u.name name, y) refl
+  | inr n ↦ rw (bytes_eq-swap u.name name, n) (use-some uses name)
+]
+
+pub use-found : (uses : List Used) (name block : List ℕ) → used_block uses name ≡ Some block → (any_use uses name ≡ true) × (block_of_use uses name ≡ block)
+use-found uses name block h = (use-some uses name ∙ ap is_some h, named uses h)
+  where
+    named : (uses : List Used) → used_block uses name ≡ Some block → block_of_use uses name ≡ block
+    named [] h = cc
+    named (u ∷ uses) h = elim (cases_Bool (bytes_eq name u.name)) [
+      | inl y ↦ rw (bytes_eq-swap u.name name, y) (let e : Some u.block ≡ Some block = sym (ap (λ b. if b then Some u.block else used_block uses name) y) ∙ h in cc)
+      | inr n ↦ rw (bytes_eq-swap u.name name, n) (named uses (sym (ap (λ b. if b then Some u.block else used_block uses name) n) ∙ h))
+    ]
+
+pub use-missing : (uses : List Used) (name : List ℕ) → used_block uses name ≡ None → any_use uses name ≡ false
+use-missing uses name h = use-some uses name ∙ ap is_some h

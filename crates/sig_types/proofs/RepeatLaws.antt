@@ -70,6 +70,10 @@ pub record IsTaken (done : List Named) (now : List (List ℕ)) : Type 0 where
   pub keys : now ≡ names_of done
   pub none : repeats done ≡ []
 
+-- the fault tells the first name that repeats in the scope
+pub record TellsRepeat (done : List Named) (fault : ModelFault) : Type 0 where
+  pub told : TellsFirst (repeats done) fault
+
 pub taken-none : (now : List (List ℕ)) → now ≡ [] → IsTaken [] now
 taken-none now e = record { keys = e; none = refl }
 
@@ -83,10 +87,11 @@ module _ {T : Type 0} (name_of : T → List ℕ) (place : ℕ → Place) (items 
     none = grows ∙ none-in_both (repeats done) (repeats_after now (scope name_of place 0 items)) taken.none none;
   }
 
-  pub taken-tells : (fault : ModelFault) → TellsFirst (repeats_after now (scope name_of place 0 items)) fault → TellsFirst (repeats (done ++ scope name_of place 0 items)) fault
-  taken-tells fault h = subst (λ l. TellsFirst l fault) (sym grows) (tells-right (repeats done) (repeats_after now (scope name_of place 0 items)) fault taken.none h)
+  pub taken-tells : (fault : ModelFault) → TellsFirst (repeats_after now (scope name_of place 0 items)) fault → TellsRepeat (done ++ scope name_of place 0 items) fault
+  taken-tells fault h = record { told = subst (λ l. TellsFirst l fault) (sym grows) (tells-right (repeats done) (repeats_after now (scope name_of place 0 items)) fault taken.none h) }
 
 -- a repeat among the first scopes is the first of all
-pub tells-earlier : (done part : List Named) (fault : ModelFault) → TellsFirst (repeats done) fault → TellsFirst (repeats (done ++ part)) fault
-tells-earlier done part fault h =
-    subst (λ l. TellsFirst l fault) (sym (repeats-append [] done part)) (tells-left (repeats done) (repeats_after (names_of done) part) fault h)
+pub tells-earlier : (done part : List Named) (fault : ModelFault) → TellsRepeat done fault → TellsRepeat (done ++ part) fault
+tells-earlier done part fault h = record {
+  told = subst (λ l. TellsFirst l fault) (sym (repeats-append [] done part)) (tells-left (repeats done) (repeats_after (names_of done) part) fault h.told);
+}

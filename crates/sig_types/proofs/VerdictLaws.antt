@@ -22,6 +22,10 @@ tells-left a b OutOfMemory h = tt
 pub tells-right : (a b : List Refusal) (fault : ModelFault) → a ≡ [] → TellsFirst b fault → TellsFirst (a ++ b) fault
 tells-right a b fault none h = subst (λ l. TellsFirst (l ++ b) fault) (sym none) h
 
+-- where the first part has no breach, the second decides
+pub verdict-right : {X : Type 0} (a b : List Refusal) (r : Result X ModelFault) → a ≡ [] → IsVerdict {X = X} b r → IsVerdict {X = X} (a ++ b) r
+verdict-right {X} a b r none h = subst (λ l. IsVerdict {X = X} (l ++ b) r) (sym none) h
+
 -- two parts without a breach
 pub none-in_both : (a b : List Refusal) → a ≡ [] → b ≡ [] → a ++ b ≡ []
 none-in_both a b ea eb = ap₂ (λ l m. l ++ m) ea eb

@@ -1,7 +1,8 @@
 //! The rules of a block, in the order in which they are looked at: names that repeat, then parts, uses, tests and links.
 //! A block is checked on its own; of other blocks only the names and the ports count.
 ghost use Rattle.std.specs.Prelude.{◌≡◌, Some, None};
-ghost use Rattle.sig_types.specs.Breaches.{block_breaches, each, in_test, mode_breaches, named, part_breaches, repeats, test_breaches, use_breaches};
+ghost use Rattle.sig_types.specs.Breaches.{block_breaches, each, functional_signals, in_test, mode_breaches, named, part_breaches, repeats, test_breaches, unknown_among, use_breaches};
+ghost use Rattle.sig_types.specs.Lookups.{contents_breaches, place_at};
 ghost use Rattle.sig_types.specs.Refused.{IsVerdict};
 ghost use Rattle.sig_types.specs.declared.model.Point.{Point};
 ghost use Rattle.sig_types.specs.declared.model.Test.{Test};
@@ -10,9 +11,9 @@ ghost use Rattle.sig_types.specs.declared.check.names.Places.TheVariants.{Elemen
 
 use crate::check::index::Index;
 use crate::check::link::check_links;
-use crate::check::names::{Places, check_known, number_names, refuse_if};
+use crate::check::names::{Places, check_known, check_repeats, refuse_if};
 use crate::check::scope::Scope;
-use crate::model::{Block, Part, Point, Test, Used};
+use crate::model::{Block, Functional, Part, Point, Test, Used};
 use crate::name::Name;
 use crate::refusals::{Code, Key, Kind, ModelFault, Place};
 use std::alloc::Global;
@@ -38,27 +39,33 @@ fn check_test_names(alloc: Global, block: u64, points: &[Point]) -> Result<(), M
             block,
             point: p as u64,
         };
-        number_names(alloc, point.tests.as_slice(), places)?;
+        check_repeats(alloc, point.tests.as_slice(), places)?;
     }
     Ok(())
+}
+
+/// The signals on which a part works are known.
+fn check_functional(
+    index: &Index,
+    places: Places,
+    functional: &Option<Functional>,
+) -> Result<(), ModelFault>
+    ensures { IsVerdict (unknown_among index.now.signals (place_at places) (functional_signals functional.now)) result }
+{
+    match functional {
+        Some(functional) => check_known(index.signals(), functional.signals.as_slice(), places),
+        None => Ok(()),
+    }
 }
 
 fn check_part(index: &Index, block: u64, number: u64, part: &Part) -> Result<(), ModelFault>
     ensures { IsVerdict (part_breaches index.now block number part.now) result }
 {
     let item = (Kind::Part, number);
-    if let Some(functional) = &part.functional {
-        check_known(
-            index.signals(),
-            functional.signals.as_slice(),
-            elements(block, item, None, Key::Signals),
-        )?;
-    }
-    check_known(
-        index.signals(),
-        part.stops.as_slice(),
-        elements(block, item, None, Key::Stops),
-    )
+    let places = elements(block, item, None, Key::Signals);
+    check_functional(index, places, &part.functional)?;
+    let places = elements(block, item, None, Key::Stops);
+    check_known(index.signals(), part.stops.as_slice(), places)
 }
 
 fn check_parts(index: &Index, block: u64, parts: &[Part]) -> Result<(), ModelFault>
@@ -149,16 +156,30 @@ fn check_points(index: &Index, block: u64, points: &[Point]) -> Result<(), Model
     Ok(())
 }
 
+/// Looks at what stands in a block whose items have names of their own.
+fn check_contents(
+    alloc: Global,
+    index: &Index,
+    scope: &Scope,
+    number: u64,
+    block: &Block,
+) -> Result<(), ModelFault>
+    requires { scope.now ≡ record { number = number; block = block.now } }
+    ensures { IsVerdict (contents_breaches index.now number block.now) result }
+{
+    check_test_names(alloc, number, block.points.as_slice())?;
+    check_parts(index, number, block.parts.as_slice())?;
+    check_uses(index, number, block.uses.as_slice())?;
+    check_points(index, number, block.points.as_slice())?;
+    check_links(index, scope, block.links.as_slice())
+}
+
 /// Looks at one block. Takes a look-up for each name that stands in it.
 fn check_block(alloc: Global, index: &Index, number: u64, block: &Block) -> Result<(), ModelFault>
     ensures { IsVerdict (block_breaches index.now number block.now) result }
 {
     let scope = Scope::of(alloc, number, block)?;
-    check_test_names(alloc, number, block.points.as_slice())?;
-    check_parts(index, number, block.parts.as_slice())?;
-    check_uses(index, number, block.uses.as_slice())?;
-    check_points(index, number, block.points.as_slice())?;
-    check_links(index, &scope)
+    check_contents(alloc, index, &scope, number, block)
 }
 
 pub(crate) fn check_blocks(alloc: Global, index: &Index, blocks: &[Block]) -> Result<(), ModelFault>

@@ -1,9 +1,9 @@
 //! What the blocks of a model are checked against: its signals, modes and blocks by name, and the ports of each block.
 //! All of it is made once, so that each look-up of a name takes one step.
-ghost use Rattle.std.specs.Prelude.{◌≡◌, [], codes, map, None, position, IfOk, OnOk};
+ghost use Rattle.std.specs.Prelude.{◌≡◌, [], codes, map, None, is_some, position, IfOk, OnOk};
 ghost use Rattle.std.specs.Str.{bytes_eq};
 ghost use Rattle.indexmap.specs.IndexSet.{insert_all};
-ghost use Rattle.sig_types.specs.Breaches.{block_names, has_port, known_modes, or_normal};
+ghost use Rattle.sig_types.specs.Breaches.{block_names, has, has_port, known_modes, or_normal};
 ghost use Rattle.sig_types.specs.Lookups.{repeated_at_top};
 ghost use Rattle.sig_types.specs.Refused.{IsVerdict};
 ghost use Rattle.sig_types.specs.declared.check.names.Places.TheVariants.{Elements};
@@ -129,7 +129,8 @@ impl<'a> Index<'a> {
 
     /// The number of the block of this name.
     pub fn block_number(&self, name: &Name) -> Option<usize>
-        ensures { result ≡ position (bytes_eq name.now) (block_names self.now) }
+        ensures number { result ≡ position (bytes_eq name.now) (block_names self.now) }
+        ensures found { is_some result ≡ has (block_names self.now) name.now }
     {
         self.blocks.get_index_of(name)
     }

@@ -94,20 +94,20 @@ fn check_link(index: &Index, scope: &Scope, number: u64, link: &Link) -> Result<
         in_link(block, number, Some(Key::To)),
         &link.to,
     )?;
-    let modes = Places::Elements {
+    let places = Places::Elements {
         block: Some(block),
         item: Some((Kind::Link, number)),
         test: None,
         key: Key::Modes,
     };
-    check_known(index.modes(), link.modes.as_slice(), modes)?;
+    check_known(index.modes(), link.modes.as_slice(), places)?;
     check_modes_named(scope, in_link(block, number, None), link)
 }
 
-pub(crate) fn check_links(index: &Index, scope: &Scope) -> Result<(), ModelFault>
-    ensures { IsVerdict (each (link_breaches index.now scope.now.number scope.now.block) scope.now.block.links) result }
+pub(crate) fn check_links(index: &Index, scope: &Scope, links: &[Link]) -> Result<(), ModelFault>
+    ensures { IsVerdict (each (link_breaches index.now scope.now.number scope.now.block) links.now) result }
 {
-    for (k, link) in scope.block().links.as_slice().iter().enumerate() {
+    for (k, link) in links.iter().enumerate() {
         check_link(index, scope, k as u64, link)?;
     }
     Ok(())

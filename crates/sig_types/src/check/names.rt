@@ -177,6 +177,18 @@ pub(crate) fn number_names<T: Named>(
     Ok(names)
 }
 
+/// Refuses the first name that repeats an earlier one of the list.
+pub(crate) fn check_repeats<T: Named>(
+    alloc: Global,
+    items: &[T],
+    places: Places,
+) -> Result<(), ModelFault>
+    ensures { IsVerdict (repeats (each (λ k item. named (T.name_of item) (place_at places k)) items.now)) result }
+{
+    number_names(alloc, items, places)?;
+    Ok(())
+}
+
 /// Refuses the first name that is not among the known ones.
 pub(crate) fn check_known(
     known: &IndexSet<Name>,

@@ -142,12 +142,6 @@ impl<'a> Scope<'a> {
         self.number
     }
 
-    pub fn block(&self) -> &Block
-        ensures { result.now ≡ self.now.block }
-    {
-        self.block
-    }
-
     /// Whether the name is that of an item.
     pub fn has_item(&self, name: &Name) -> bool
         ensures { result ≡ has (names_of (scope_of self.now.number self.now.block)) name.now }
