@@ -1,6 +1,11 @@
+//! The look for breaches of a model, in their order: counts, names of the document that repeat, each block, and the top.
+//! Every function of this module tells the first breach of its part of that order, and a later part is looked at only
+//! where the earlier ones have none. Names are looked up in sets that are made once, so that all of it takes a few
+//! look-ups for each name of the model.
 ghost use Rattle.std.specs.Prelude.{◌≡◌, [], IfOk, IfErr};
-ghost use Rattle.sig_types.specs.Breaches.{breaches, known_modes};
-ghost use Rattle.sig_types.specs.Refused.{TellsFirst};
+ghost use Rattle.sig_types.specs.Breaches.{breaches, known_modes, or_normal, too_many};
+ghost use Rattle.sig_types.specs.Parts.{count_breaches, indexed_breaches};
+ghost use Rattle.sig_types.specs.Refused.{IsVerdict, TellsFirst};
 
 mod block;
 mod index;
@@ -8,19 +13,98 @@ mod link;
 mod names;
 mod scope;
 
+use crate::list::List;
 use crate::model::Model;
-use crate::refusals::ModelFault;
+use crate::name::Name;
+use crate::refusals::{Code, Counted, Key, ModelFault, Place};
 use crate::valid::Valid;
-use std::alloc::Global;
+use block::check_blocks;
+use index::{Index, normal};
+use names::refuse_if;
+use std::alloc::{AllocError, Global};
+
+fn check_count(counted: Counted, limit: usize, count: usize) -> Result<(), ModelFault>
+    ensures { IsVerdict (too_many counted limit count) result }
+{
+    refuse_if(limit < count, Code::M13, Place::Count(counted))
+}
+
+/// At most 64 signals, 32 modes and 1,024 blocks.
+fn check_counts(model: &Model) -> Result<(), ModelFault>
+    ensures { IsVerdict (count_breaches model.now) result }
+{
+    check_count(Counted::Signals, 64, model.signals.len())?;
+    check_count(Counted::Modes, 32, model.modes.len())?;
+    check_count(Counted::Blocks, 1024, model.blocks.len())
+}
+
+/// The blocks, and then the top.
+fn check_indexed(alloc: Global, index: &Index, model: &Model) -> Result<(), ModelFault>
+    requires { index.now ≡ model.now }
+    ensures { IsVerdict (indexed_breaches model.now) result }
+{
+    check_blocks(alloc, index, model.blocks.as_slice())?;
+    let top = Place::In {
+        block: None,
+        item: None,
+        test: None,
+        key: Some(Key::Top),
+        element: None,
+    };
+    refuse_if(index.block_number(&model.top).is_none(), Code::M08, top)
+}
+
+fn check_model(alloc: Global, model: &Model) -> Result<(), ModelFault>
+    ensures { IsVerdict (breaches model.now) result }
+{
+    check_counts(model)?;
+    let index = Index::of(alloc, model)?;
+    check_indexed(alloc, &index, model)
+}
+
+/// The modes that a model is kept with.
+fn kept_modes(alloc: Global, modes: List<Name>) -> Result<List<Name>, AllocError>
+    ensures { IfOk result (λ kept. kept ≡ or_normal modes) }
+{
+    if modes.len() > 0 {
+        return Ok(modes);
+    }
+    let mut kept = List::new(alloc);
+    kept.push(normal())?;
+    Ok(kept)
+}
+
+/// A model in which no breach was found, as a valid one.
+fn keep(alloc: Global, model: Model) -> Result<Valid, AllocError>
+    requires { breaches model ≡ [] }
+    ensures { IfOk result (λ valid. valid ≡ record model { modes = known_modes model }) }
+{
+    let Model {
+        good,
+        top,
+        signals,
+        modes,
+        blocks,
+    } = model;
+    Ok(Valid::of(Model {
+        good,
+        top,
+        signals,
+        modes: kept_modes(alloc, modes)?,
+        blocks,
+    }))
+}
 
 impl Model {
     /// The model as a valid one, with the one mode `normal` where it declares none; else the first breach, in the
-    /// order: counts, repeated names of the document, each block, and the top.
+    /// order: counts, names of the document that repeat, each block, and the top. Takes a few look-ups for each name
+    /// of the model.
     pub fn check(self, alloc: Global) -> Result<Valid, ModelFault>
         ensures valid { IfOk result (λ valid. (breaches self ≡ []) × (valid ≡ record self { modes = known_modes self })) }
         ensures refused { IfErr result (TellsFirst (breaches self)) }
     {
-        let _ = alloc;
-        Err(ModelFault::OutOfMemory)
+        check_model(alloc, &self)?;
+        let valid = keep(alloc, self)?;
+        Ok(valid)
     }
 }

@@ -1,7 +1,8 @@
 //! The types of a model of a system, as its text states it: blocks of ports, switches, parts, uses, test points and
 //! links, with names, weights and costs that are in their ranges by type; and refusals with their places. The
-//! definition of all breaches of a model stands in `specs/Breaches.antt`; the check that looks for them is not
-//! built yet.
+//! definition of all breaches of a model stands in `specs/Breaches.antt`. `Model::check` makes a `Valid` of a model
+//! without a breach, and else tells the first; names are looked up in sets, so that it takes a few look-ups for each
+//! name of the model.
 #![tactic(auto)]
 
 mod check;
@@ -22,3 +23,6 @@ pub use refusals::{Code, Counted, Key, Kind, ModelFault, Place, Refusal};
 pub use sets::{Modes, Signals};
 pub use text::Text;
 pub use valid::Valid;
+
+#[cfg(test)]
+mod tests;

@@ -24,6 +24,14 @@ impl std::marker::Model for Valid {
 }
 
 impl Valid {
+    pub(crate) fn of(model: Model) -> Valid
+        requires sound { breaches model ≡ [] }
+        requires modes { 1 ≤ length model.modes }
+        ensures { result ≡ model }
+    {
+        Valid { model }
+    }
+
     /// The model itself; its `modes` are not empty.
     pub fn model(&self) -> &Model
         ensures same { result.now ≡ self.now }

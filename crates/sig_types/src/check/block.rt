@@ -2,7 +2,8 @@
 //! A block is checked on its own; of other blocks only the names and the ports count.
 ghost use Rattle.std.specs.Prelude.{◌≡◌, Some, None};
 ghost use Rattle.sig_types.specs.Breaches.{block_breaches, each, functional_signals, in_test, mode_breaches, named, part_breaches, repeats, test_breaches, unknown_among, use_breaches};
-ghost use Rattle.sig_types.specs.Lookups.{contents_breaches, place_at};
+ghost use Rattle.sig_types.specs.Lookups.{place_at};
+ghost use Rattle.sig_types.specs.Parts.{contents_breaches};
 ghost use Rattle.sig_types.specs.Refused.{IsVerdict};
 ghost use Rattle.sig_types.specs.declared.model.Point.{Point};
 ghost use Rattle.sig_types.specs.declared.model.Test.{Test};

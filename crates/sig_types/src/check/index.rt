@@ -4,7 +4,7 @@ ghost use Rattle.std.specs.Prelude.{◌≡◌, [], codes, map, None, is_some, po
 ghost use Rattle.std.specs.Str.{bytes_eq};
 ghost use Rattle.indexmap.specs.IndexSet.{insert_all};
 ghost use Rattle.sig_types.specs.Breaches.{block_names, has, has_port, known_modes, or_normal};
-ghost use Rattle.sig_types.specs.Lookups.{repeated_at_top};
+ghost use Rattle.sig_types.specs.Parts.{repeated_at_top};
 ghost use Rattle.sig_types.specs.Refused.{IsVerdict};
 ghost use Rattle.sig_types.specs.declared.check.names.Places.TheVariants.{Elements};
 
