@@ -69,31 +69,16 @@ fn names_in(alloc: Global, number: u64, block: &Block) -> Result<IndexSet<Name>,
     ensures verdict { IsVerdict (repeats (scope_of number block.now)) result }
 {
     let mut names = IndexSet::new(alloc);
-    take_names(
-        &mut names,
-        block.ports.as_slice(),
-        in_block(number, Key::Ports),
-    )?;
-    take_names(
-        &mut names,
-        block.switches.as_slice(),
-        in_block(number, Key::Switches),
-    )?;
-    take_names(
-        &mut names,
-        block.parts.as_slice(),
-        items_in(number, Kind::Part),
-    )?;
-    take_names(
-        &mut names,
-        block.uses.as_slice(),
-        items_in(number, Kind::Use),
-    )?;
-    take_names(
-        &mut names,
-        block.points.as_slice(),
-        items_in(number, Kind::Point),
-    )?;
+    let ports = in_block(number, Key::Ports);
+    take_names(&mut names, block.ports.as_slice(), ports)?;
+    let switches = in_block(number, Key::Switches);
+    take_names(&mut names, block.switches.as_slice(), switches)?;
+    let parts = items_in(number, Kind::Part);
+    take_names(&mut names, block.parts.as_slice(), parts)?;
+    let uses = items_in(number, Kind::Use);
+    take_names(&mut names, block.uses.as_slice(), uses)?;
+    let points = items_in(number, Kind::Point);
+    take_names(&mut names, block.points.as_slice(), points)?;
     Ok(names)
 }
 
