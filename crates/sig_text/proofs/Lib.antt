@@ -4,3 +4,4 @@ pub mod Elements
 pub mod Ends
 pub mod Answered
 pub mod First
+pub mod Worked

@@ -8,6 +8,8 @@
 
 mod arrays;
 mod keys;
+mod names;
+mod numbers;
 mod places;
 mod reader;
 mod tables;

@@ -15,8 +15,9 @@ ghost use Rattle.sig_text.specs.Tables.{link_breaches, link_of, test_breaches, t
 
 use crate::arrays::list_at;
 use crate::keys::{check_keys, member};
+use crate::numbers::Version;
 use crate::places::{At, Spot};
-use crate::values::{FromValue, Version, optional, refuse, required};
+use crate::values::{FromValue, optional, refuse, required};
 use sig_types::{
     Block, Code, Cost, End, Functional, Good, Key, Kind, Link, List, Model, ModelFault, Name, Part,
     Place, Point, Test, Used, Weight,
