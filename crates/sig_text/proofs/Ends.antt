@@ -1,5 +1,5 @@
 -- The two parts of a text round its first `.`: where there is none, nothing stands after it.
-use Rattle.std.proofs.Common.{◌≡◌, ◌+◌, ◌<◌, ◌≤◌, ℕ, List, [], length, Option, Some, None, MatchOption, Bor, refl, arith}
+use Rattle.std.proofs.Common.{◌≡◌, ◌+◌, ◌<◌, ℕ, List, [], length, Option, Some, None, MatchOption, Bor, arith}
 use Rattle.std.specs.List.{position_or_len, before_first, after_first}
 use Rattle.std.proofs.lemmas.List.{drop_all}
 use Rattle.sig_text.specs.Values.{is_dot}

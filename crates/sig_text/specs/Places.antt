@@ -1,5 +1,5 @@
 -- Where tables and values stand in a document, and a breach there.
-use Rattle.std.specs.Prelude.{ℕ, Bool, cond, List, [], ◌∷◌, Option, Some, None, option_map}
+use Rattle.std.specs.Prelude.{ℕ, Bool, cond, List, [], ◌∷◌, Some, None, option_map}
 use Rattle.sig_types.specs.declared.refusals.Code.{Code}
 use Rattle.sig_types.specs.declared.refusals.Key.{Key}
 use Rattle.sig_types.specs.declared.refusals.Kind.{Kind}

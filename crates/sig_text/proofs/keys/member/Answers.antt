@@ -1,4 +1,3 @@
-use Rattle.std.proofs.Common.{◌≡◌, refl}
 use Rattle.toml.proofs.Views.{table_get}
 use Rattle.sig_text.proofs.keys.member.Goals as goal
 
