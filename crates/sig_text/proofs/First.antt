@@ -1,13 +1,12 @@
 -- The first of some breaches that stand one list after the other: a list that isn't empty has it, and an empty one
 -- leaves it to the lists after it.
 use Rattle.std.proofs.Common.{◌≡◌, List, [], ◌∷◌, ◌++◌, Some}
-use Rattle.std.specs.Prelude.{slice_get}
 use Rattle.sig_types.specs.declared.refusals.Refusal.{Refusal}
 use Rattle.sig_types.specs.declared.refusals.ModelFault.{ModelFault}
 use Rattle.sig_types.specs.declared.refusals.ModelFault.TheVariants.{Refused, OutOfMemory}
-use Rattle.sig_text.specs.Reading.{TellsFirst}
+use Rattle.sig_text.specs.Reading.{first, TellsFirst}
 
-first_before : (bs cs : List Refusal) (r : Refusal) → slice_get bs 0 ≡ Some r → slice_get (bs ++ cs) 0 ≡ Some r
+first_before : (bs cs : List Refusal) (r : Refusal) → first bs ≡ Some r → first (bs ++ cs) ≡ Some r
 first_before [] cs r h = cc
 first_before (b ∷ bs) cs r h = h
 

@@ -1,12 +1,17 @@
 -- What reading answers.
-use Rattle.std.specs.Prelude.{◌≡◌, ⊤, List, [], Some, Result, Ok, Err, slice_get}
+use Rattle.std.specs.Prelude.{◌≡◌, ⊤, List, [], ◌∷◌, Option, Some, None, Result, Ok, Err}
 use Rattle.sig_types.specs.declared.refusals.Refusal.{Refusal}
 use Rattle.sig_types.specs.declared.refusals.ModelFault.{ModelFault}
 use Rattle.sig_types.specs.declared.refusals.ModelFault.TheVariants.{Refused, OutOfMemory}
 
--- the first of the breaches is told; want of memory may come at any time
+-- the first breach, where there is one
+abbrev pub first : List Refusal → Option Refusal
+first [] = None
+first (breach ∷ rest) = Some breach
+
+-- a refusal is the first of the breaches; want of memory says nothing of them
 abbrev pub TellsFirst : List Refusal → ModelFault → Type 0
-TellsFirst breaches (Refused refusal) = slice_get breaches 0 ≡ Some refusal
+TellsFirst breaches (Refused refusal) = first breaches ≡ Some refusal
 TellsFirst breaches OutOfMemory = ⊤
 
 -- the value where there is no breach, else the first one
