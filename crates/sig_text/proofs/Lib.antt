@@ -1,5 +1,7 @@
 pub mod KeyLaws
 pub mod Documents
-pub mod SmallLaws
-pub mod ReadLaws
+pub mod Elements
+pub mod Ends
+pub mod Answered
+pub mod First
 pub mod Worked

@@ -1,21 +1,75 @@
 -- The keys that each kind of table may have.
-use Rattle.std.specs.Prelude.{ℕ, Bool, true, ◌&&◌, ◌||◌, List, codes}
+use Rattle.std.specs.Prelude.{ℕ, Bool, true, ◌&&◌, not, List, [], ◌∷◌, Option, Some, None, codes}
+use Rattle.std.specs.List.{list_any}
 use Rattle.std.specs.Str.{bytes_eq}
-use Rattle.toml.specs.Data.{Members, no_members, member}
-use Rattle.sig_text.specs.declared.keys.TableKind.{TableKind}
-use Rattle.sig_text.specs.declared.keys.TableKind.TheVariants.{Document as DocumentTable, Block as BlockTable, Part as PartTable, Point as PointTable, Test as TestTable, Link as LinkTable}
+use Rattle.toml.specs.Data.{Data, Members, no_members, member, get_member}
+use Rattle.sig_types.specs.declared.refusals.Code.TheVariants.{M04}
+use Rattle.sig_types.specs.declared.refusals.Key.{Key}
+use Rattle.sig_types.specs.declared.refusals.Key.TheVariants.{Version, Good, Top, Signals, Modes, Block, Name, Ports, Switches, Part, Use, Point, Link, Functional, General, Stops, Test, Cost, Mode, From, To}
+use Rattle.sig_types.specs.declared.refusals.Place.{Place}
+use Rattle.sig_types.specs.declared.refusals.Refusal.{Refusal}
+use Rattle.sig_text.specs.Places.{breach_if}
 
-abbrev pub is_key : TableKind → List ℕ → Bool
-is_key DocumentTable key =
-    ((bytes_eq key (codes "version") || bytes_eq key (codes "good")) || (bytes_eq key (codes "top") || bytes_eq key (codes "signals"))) || bytes_eq key (codes "block")
-is_key BlockTable key =
-    (bytes_eq key (codes "name") || bytes_eq key (codes "part")) || (bytes_eq key (codes "point") || bytes_eq key (codes "link"))
-is_key PartTable key = (bytes_eq key (codes "name") || bytes_eq key (codes "functional")) || bytes_eq key (codes "signals")
-is_key PointTable key = bytes_eq key (codes "name") || bytes_eq key (codes "test")
-is_key TestTable key = (bytes_eq key (codes "name") || bytes_eq key (codes "cost")) || bytes_eq key (codes "signals")
-is_key LinkTable key = bytes_eq key (codes "from") || bytes_eq key (codes "to")
+-- a key as it is written in a text
+abbrev pub key_text : Key → List ℕ
+key_text Version = codes "version"
+key_text Good = codes "good"
+key_text Top = codes "top"
+key_text Signals = codes "signals"
+key_text Modes = codes "modes"
+key_text Block = codes "block"
+key_text Name = codes "name"
+key_text Ports = codes "ports"
+key_text Switches = codes "switches"
+key_text Part = codes "part"
+key_text Use = codes "use"
+key_text Point = codes "point"
+key_text Link = codes "link"
+key_text Functional = codes "functional"
+key_text General = codes "general"
+key_text Stops = codes "stops"
+key_text Test = codes "test"
+key_text Cost = codes "cost"
+key_text Mode = codes "mode"
+key_text From = codes "from"
+key_text To = codes "to"
+
+-- what stands at a key of a table
+abbrev pub value_at : Key → Members → Option Data
+value_at key members = get_member (key_text key) members
+
+abbrev pub document_keys : List Key
+document_keys = Version ∷ Good ∷ Top ∷ Signals ∷ Modes ∷ Block ∷ []
+
+abbrev pub block_keys : List Key
+block_keys = Name ∷ Ports ∷ Switches ∷ Part ∷ Use ∷ Point ∷ Link ∷ []
+
+-- the signals of a part are those of its functional fault, so they are known only where there is one
+abbrev pub part_keys : Option Data → List Key
+part_keys None = Name ∷ Functional ∷ General ∷ Stops ∷ []
+part_keys (Some functional) = Name ∷ Functional ∷ Signals ∷ General ∷ Stops ∷ []
+
+abbrev pub use_keys : List Key
+use_keys = Name ∷ Block ∷ []
+
+abbrev pub point_keys : List Key
+point_keys = Name ∷ Test ∷ []
+
+abbrev pub test_keys : List Key
+test_keys = Name ∷ Cost ∷ Signals ∷ Mode ∷ []
+
+abbrev pub link_keys : List Key
+link_keys = From ∷ To ∷ Modes ∷ []
+
+-- the text is one of these keys
+abbrev pub is_known : List Key → List ℕ → Bool
+is_known known text = list_any (λ key. bytes_eq (key_text key) text) known
 
 -- each key of the table is known
-abbrev pub are_known : TableKind → Members → Bool
-are_known kind no_members = true
-are_known kind (member key d more) = is_key kind key && are_known kind more
+abbrev pub are_known : List Key → Members → Bool
+are_known known no_members = true
+are_known known (member text d more) = is_known known text && are_known known more
+
+-- M04 at the table where one of its keys isn't known there
+abbrev pub unknown_keys : List Key → Place → Members → List Refusal
+unknown_keys known place members = breach_if (not (are_known known members)) M04 place

@@ -1,7 +1,8 @@
 pub mod Document
-pub mod Values
+pub mod Places
 pub mod Keys
-pub mod SmallModel
-pub mod SmallForm
 pub mod Reading
+pub mod Values
+pub mod Tables
+pub mod Texts
 pub mod Examples

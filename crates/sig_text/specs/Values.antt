@@ -1,65 +1,103 @@
--- The kinds of values at a key, and what each value stands for. A test says whether a value is of its kind; beside it
--- stands what the value gives, which is 0 or empty where the test fails.
-use Rattle.std.specs.Prelude.{ℕ, pos, Bool, true, false, ◌&&◌, nat_le, List, [], ◌∷◌, Option, Some, None}
+-- The breaches of a single value, and what it stands for. What a value of the wrong kind stands for is 0 or empty; it
+-- is never read.
+use Rattle.std.specs.Prelude.{ℕ, ◌+◌, ◌==◌, pos, negsuc, Bool, ◌&&◌, ◌||◌, not, nat_le, if◌then◌else◌, List, [], ◌∷◌, ◌++◌, Option, Some, None}
+use Rattle.std.specs.List.{before_first, after_first}
 use Rattle.toml.specs.Data.{Data, string, integer, array, table, Items, no_items, item, Members, no_members}
 use Rattle.sig_types.specs.NameText.{is_name}
+use Rattle.sig_types.specs.declared.model.End.{End}
+use Rattle.sig_types.specs.declared.refusals.Code.TheVariants.{M02, M03, M05, M06, M09}
+use Rattle.sig_types.specs.declared.refusals.Refusal.{Refusal}
+use Rattle.sig_text.specs.declared.places.At.{At}
+use Rattle.sig_text.specs.declared.places.Spot.{Spot}
+use Rattle.sig_text.specs.Places.{at_element, value_place, breach, breach_if}
 
 -- an integer from low to high
-abbrev pub is_number : ℕ → ℕ → Data → Bool
-is_number low high (integer (pos n)) = nat_le low n && nat_le n high
-is_number low high _ = false
+abbrev pub number_breaches : ℕ → ℕ → At → Data → List Refusal
+number_breaches low high at (integer (pos n)) = breach_if (not (nat_le low n && nat_le n high)) M09 (value_place at)
+number_breaches low high at (integer (negsuc n)) = breach M09 (value_place at)
+number_breaches low high at _ = breach M05 (value_place at)
 
 abbrev pub number_of : Data → ℕ
 number_of (integer (pos n)) = n
 number_of _ = 0
 
+-- the version of the form, which is 1
+abbrev pub version_breaches : At → Data → List Refusal
+version_breaches at (integer (pos n)) = breach_if (not (n == 1)) M02 (value_place at)
+version_breaches at (integer (negsuc n)) = breach M02 (value_place at)
+version_breaches at _ = breach M05 (value_place at)
+
 -- a string that is a name
-abbrev pub is_name_string : Data → Bool
-is_name_string (string s) = is_name s
-is_name_string _ = false
+abbrev pub name_breaches : At → Data → List Refusal
+name_breaches at (string text) = breach_if (not (is_name text)) M06 (value_place at)
+name_breaches at _ = breach M05 (value_place at)
 
 abbrev pub name_of : Data → List ℕ
-name_of (string s) = s
+name_of (string text) = text
 name_of _ = []
 
--- each element is of a kind
-abbrev pub each_is : (Data → Bool) → Items → Bool
-each_is is_kind no_items = true
-each_is is_kind (item d more) = is_kind d && each_is is_kind more
+-- a link's end: a name, or two names with one `.` between them. No name has a `.`, so what stands before the first
+-- one and what stands after it are names only where there is no other
+abbrev pub is_dot : ℕ → Bool
+is_dot byte = byte == 46
 
-abbrev pub each_value : {A : Type 0} → (Data → A) → Items → List A
-each_value value no_items = []
-each_value value (item d more) = value d ∷ each_value value more
+abbrev pub is_pair : List ℕ → Bool
+is_pair text = is_name (before_first is_dot text) && is_name (after_first is_dot text)
 
--- an array, each element of a kind
-abbrev pub is_array_of : (Data → Bool) → Data → Bool
-is_array_of is_kind (array ds) = each_is is_kind ds
-is_array_of is_kind _ = false
+abbrev pub pair_in : List ℕ → End
+pair_in text = record { first = before_first is_dot text; second = Some (after_first is_dot text) }
+
+abbrev pub is_end : List ℕ → Bool
+is_end text = is_name text || is_pair text
+
+abbrev pub end_in : List ℕ → End
+end_in text = if is_name text then record { first = text; second = None } else pair_in text
+
+abbrev pub end_breaches : At → Data → List Refusal
+end_breaches at (string text) = breach_if (not (is_end text)) M06 (value_place at)
+end_breaches at _ = breach M05 (value_place at)
+
+abbrev pub end_of : Data → End
+end_of (string text) = end_in text
+end_of _ = end_in []
+
+-- the elements from the one of number n on, each looked at whole before the next
+abbrev pub each_breaches : (At → Data → List Refusal) → At → ℕ → Items → List Refusal
+each_breaches breaches at n no_items = []
+each_breaches breaches at n (item d more) = breaches (at_element at n) d ++ each_breaches breaches at (n + 1) more
+
+abbrev pub each_of : {A : Type 0} → (Data → A) → Items → List A
+each_of value no_items = []
+each_of value (item d more) = value d ∷ each_of value more
+
+-- an array: it has to be one, and then its elements in order
+abbrev pub array_breaches : (At → Data → List Refusal) → At → Data → List Refusal
+array_breaches breaches at (array ds) = each_breaches breaches at 0 ds
+array_breaches breaches at _ = breach M05 (value_place at)
 
 abbrev pub list_of : {A : Type 0} → (Data → A) → Data → List A
-list_of value (array ds) = each_value value ds
+list_of value (array ds) = each_of value ds
 list_of value _ = []
 
--- a table of a form
-abbrev pub is_table_of : (Members → Bool) → Data → Bool
-is_table_of is_form (table members) = is_form members
-is_table_of is_form _ = false
+-- a table that stands at a spot
+abbrev pub table_breaches : (Spot → Members → List Refusal) → (At → Spot) → At → Data → List Refusal
+table_breaches breaches spot at (table members) = breaches (spot at) members
+table_breaches breaches spot at _ = breach M05 (value_place at)
 
-abbrev pub record_of : {A : Type 0} → (Members → A) → Data → A
-record_of value (table members) = value members
-record_of value _ = value no_members
+abbrev pub table_of : {A : Type 0} → (Members → A) → Data → A
+table_of value (table members) = value members
+table_of value _ = value no_members
 
--- a required key: its value is there and of a kind
-abbrev pub has : (Data → Bool) → Option Data → Bool
-has is_kind None = false
-has is_kind (Some d) = is_kind d
+-- what stands at a required key, and at one that may be absent
+abbrev pub required_breaches : (At → Data → List Refusal) → At → Option Data → List Refusal
+required_breaches breaches at None = breach M03 (value_place at)
+required_breaches breaches at (Some d) = breaches at d
 
--- an optional key: its value is of a kind where it is there
-abbrev pub may_have : (Data → Bool) → Option Data → Bool
-may_have is_kind None = true
-may_have is_kind (Some d) = is_kind d
+abbrev pub optional_breaches : (At → Data → List Refusal) → At → Option Data → List Refusal
+optional_breaches breaches at None = []
+optional_breaches breaches at (Some d) = breaches at d
 
--- what the value at a key stands for, or else what stands for an absent one
-abbrev pub value_or : {A : Type 0} → A → (Data → A) → Option Data → A
-value_or absent value None = absent
-value_or absent value (Some d) = value d
+-- what the value at a key stands for: an absent one for what an empty array does
+abbrev pub value_or_empty : {A : Type 0} → (Data → A) → Option Data → A
+value_or_empty value None = value (array no_items)
+value_or_empty value (Some d) = value d

@@ -1,64 +1,82 @@
-//! Which keys a table may have.
+//! Which keys a table may have, and the look-up of one.
 //!
-//! A table with another key is refused whatever that key holds, so this is looked at first.
+//! A table with another key is refused whatever that key holds, so this is looked at before its
+//! known keys. Each kind of table knows at most seven keys, so the test takes time linear in the
+//! table's text.
 
-ghost use Rattle.std.specs.Prelude.{◌≡◌, string_bytes};
+ghost use Rattle.std.specs.Prelude.{◌≡◌, string_bytes, option_map};
 ghost use Rattle.std.specs.List.{list_all};
 ghost use Rattle.std.specs.BTreeMap.{keys};
-ghost use Rattle.toml.specs.View.{table_view};
-ghost use Rattle.sig_text.specs.Keys.{is_key, are_known};
+ghost use Rattle.toml.specs.View.{view, table_view};
+ghost use Rattle.sig_text.specs.Keys.{key_text, value_at, is_known, are_known, unknown_keys};
 ghost use Rattle.sig_text.specs.Reading.{Answers};
 
 use crate::values::refuse;
-use sig_types::ModelFault;
-use toml::Table;
+use sig_types::{Code, Key, ModelFault, Place};
+use toml::{Table, Value};
 
-/// The kinds of tables in a model's text.
-#[derive(Clone, Copy, Debug)]
-pub enum TableKind {
-    Document,
-    Block,
-    Part,
-    Point,
-    Test,
-    Link,
-}
-
-fn is_key(kind: TableKind, key: &str) -> bool
-    ensures { result ≡ is_key kind key.now }
+/// A key as it is written in a text.
+fn key_text(key: Key) -> &'static str
+    ensures { result.now ≡ key_text key }
 {
-    match kind {
-        TableKind::Document => {
-            key == "version" || key == "good" || key == "top" || key == "signals" || key == "block"
-        }
-        TableKind::Block => key == "name" || key == "part" || key == "point" || key == "link",
-        TableKind::Part => key == "name" || key == "functional" || key == "signals",
-        TableKind::Point => key == "name" || key == "test",
-        TableKind::Test => key == "name" || key == "cost" || key == "signals",
-        TableKind::Link => key == "from" || key == "to",
+    match key {
+        Key::Version => "version",
+        Key::Good => "good",
+        Key::Top => "top",
+        Key::Signals => "signals",
+        Key::Modes => "modes",
+        Key::Block => "block",
+        Key::Name => "name",
+        Key::Ports => "ports",
+        Key::Switches => "switches",
+        Key::Part => "part",
+        Key::Use => "use",
+        Key::Point => "point",
+        Key::Link => "link",
+        Key::Functional => "functional",
+        Key::General => "general",
+        Key::Stops => "stops",
+        Key::Test => "test",
+        Key::Cost => "cost",
+        Key::Mode => "mode",
+        Key::From => "from",
+        Key::To => "to",
     }
 }
 
-fn names_are_known(kind: TableKind, table: &Table) -> bool
-    ensures { result ≡ list_all (λ key. is_key kind (string_bytes key)) (keys table.now) }
+/// The value at a key of a table.
+pub fn member<'a>(table: &'a Table, key: Key) -> Option<&'a Value>
+    ensures { option_map (λ x. view x.now) result ≡ value_at key (table_view table.now) }
 {
-    table.keys().all(|key| is_key(kind, key.as_str()))
+    table.get(key_text(key))
+}
+
+fn is_known(known: &[Key], text: &str) -> bool
+    ensures { result ≡ is_known known.now text.now }
+{
+    known.iter().any(|key| key_text(*key) == text)
+}
+
+fn names_are_known(known: &[Key], table: &Table) -> bool
+    ensures { result ≡ list_all (λ key. is_known known.now (string_bytes key)) (keys table.now) }
+{
+    table.keys().all(|key| is_known(known, key.as_str()))
 }
 
 #[tactic(auto, using(crate::proofs::KeyLaws::by_names))]
-fn are_known(kind: TableKind, table: &Table) -> bool
-    ensures { result ≡ are_known kind (table_view table.now) }
+fn are_known(known: &[Key], table: &Table) -> bool
+    ensures { result ≡ are_known known.now (table_view table.now) }
 {
-    names_are_known(kind, table)
+    names_are_known(known, table)
 }
 
-/// Refuses a table that has a key which isn't known in tables of its kind.
-pub fn check_keys(kind: TableKind, table: &Table) -> Result<(), ModelFault>
-    ensures { Answers result (are_known kind (table_view table.now)) tt }
+/// Refuses a table that has a key which isn't known there.
+pub fn check_keys(table: &Table, known: &[Key], place: Place) -> Result<(), ModelFault>
+    ensures { Answers result (unknown_keys known.now place (table_view table.now)) tt }
 {
-    if are_known(kind, table) {
+    if are_known(known, table) {
         Ok(())
     } else {
-        refuse()
+        refuse(Code::M04, place)
     }
 }

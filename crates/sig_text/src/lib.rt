@@ -1,13 +1,17 @@
-//! The text of a model: from the bytes of a TOML document to a `Model`.
+//! The text of a model: from the bytes of a TOML document to a `Model`, or to the first breach.
 //!
-//! What is a document is toml's own definition. What its table has to be, and which model it
-//! stands for, are definitions over toml's data, so no clause speaks of the order of reading.
+//! What is a document is toml's own definition. Which breaches its table has, in which order, and
+//! which model it stands for, are plain definitions over toml's data in `specs/`; every reader here
+//! answers the value exactly where there is no breach, and else the first of them. Reading takes
+//! time linear in the text, but for the look-up of a key in the table's own ordered map.
 #![tactic(auto)]
 
-mod items;
+mod arrays;
 mod keys;
+mod names;
+mod numbers;
+mod places;
 mod reader;
-mod small;
 mod tables;
 mod values;
 

@@ -1,93 +1,264 @@
-//! Arrays of tables, read element by element.
+//! The tables of a text: the document, its blocks, their items, and the tests of points.
 //!
-//! What a table of one kind has to be and stands for, its reader says by two ghost members; one
-//! loop serves all kinds.
+//! Each reader looks for an unknown key first and then reads key by key, in the order in which the
+//! breaches are to be found; `?` ends it at the first.
 
-ghost use Rattle.std.specs.Prelude.{◌≡◌, []};
-ghost use Rattle.toml.specs.Data.{Members, get_member};
-ghost use Rattle.toml.specs.View.{view, table_view, items_view};
+ghost use Rattle.std.specs.Prelude.{◌≡◌, option_map};
+ghost use Rattle.toml.specs.View.{view, table_view};
+ghost use Rattle.sig_types.specs.declared.refusals.Kind.TheVariants.{Part as PartKind, Use as UseKind, Point as PointKind, Link as LinkKind};
+ghost use Rattle.sig_types.specs.declared.refusals.Key.TheVariants.{Functional as FunctionalKey};
+ghost use Rattle.sig_text.specs.Places.{block_spot, item_spot, test_spot};
+ghost use Rattle.sig_text.specs.Keys.{value_at, part_keys};
 ghost use Rattle.sig_text.specs.Reading.{Answers};
-ghost use Rattle.sig_text.specs.Values.{each_is, each_value, is_table_of, record_of, has, may_have, value_or};
-ghost use Rattle.sig_text.specs.SmallForm.{are_tables, records_of};
+ghost use Rattle.sig_text.specs.Values.{table_breaches, table_of};
+ghost use Rattle.sig_text.specs.Tables.{link_breaches, link_of, test_breaches, test_of, point_breaches, point_of, use_breaches, use_of, functional_breaches, functional_of, part_breaches, part_of, block_breaches, block_of, model_breaches, document_breaches, model_of};
 
-use crate::values::{member, refuse};
-use sig_types::{List, ModelFault};
+use crate::arrays::list_at;
+use crate::keys::{check_keys, member};
+use crate::numbers::Version;
+use crate::places::{At, Spot};
+use crate::values::{FromValue, optional, refuse, required};
+use sig_types::{
+    Block, Code, Cost, End, Functional, Good, Key, Kind, Link, List, Model, ModelFault, Name, Part,
+    Place, Point, Test, Used, Weight,
+};
 use std::alloc::Global;
 use toml::{Table, Value};
 
-/// What a table of one kind is read into.
-pub trait FromTable: Drop {
-    ghost use Rattle.std.specs.Prelude.{Bool};
-    ghost use Rattle.toml.specs.Data.{Members};
-    ghost use Rattle.toml.specs.View.{table_view};
-    ghost use Rattle.sig_text.specs.Reading.{Answers};
-
-    ghost is_form: { Members → Bool };
-
-    ghost value: { Members → Self };
-
-    fn read(alloc: Global, table: &Table) -> Result<Self, ModelFault>
-        ensures { Answers result (is_form (table_view table.now)) (value (table_view table.now)) };
+fn link_in(alloc: Global, table: &Table, spot: Spot) -> Result<Link, ModelFault>
+    ensures { Answers result (link_breaches spot (table_view table.now)) (link_of (table_view table.now)) }
+{
+    check_keys(table, &[Key::From, Key::To, Key::Modes], spot.place())?;
+    let from = required::<End>(alloc, table, spot.at(Key::From))?;
+    let to = required::<End>(alloc, table, spot.at(Key::To))?;
+    let modes = list_at::<Name>(alloc, table, spot.at(Key::Modes))?;
+    Ok(Link { from, to, modes })
 }
 
-fn element_in<T: FromTable>(alloc: Global, value: &Value) -> Result<T, ModelFault>
-    ensures { Answers result (is_table_of T.is_form (view value.now)) (record_of T.value (view value.now)) }
-{
-    match value {
-        Value::Table(table) => T::read(alloc, table),
-        _ => refuse(),
-    }
-}
+impl FromValue for Link {
+    ghost breaches = { table_breaches link_breaches (item_spot LinkKind) };
 
-fn elements_in<T: FromTable>(alloc: Global, items: &[Value]) -> Result<List<T>, ModelFault>
-    ensures { Answers result (each_is (is_table_of T.is_form) (items_view items.now)) (each_value (record_of T.value) (items_view items.now)) }
-{
-    let mut elements = List::new(alloc);
-    for (i, value) in items.iter().enumerate() {
-        let element = element_in::<T>(alloc, value)?;
-        match elements.push(element) {
-            Ok(()) => {}
-            Err(_) => return Err(ModelFault::OutOfMemory),
+    ghost stands_for = { table_of link_of };
+
+    fn read(alloc: Global, value: &Value, at: At) -> Result<Link, ModelFault> {
+        match value {
+            Value::Table(table) => link_in(alloc, table, at.item(Kind::Link)),
+            _ => refuse(Code::M05, at.place()),
         }
     }
-    Ok(elements)
 }
 
-fn tables_in<T: FromTable>(alloc: Global, value: &Value) -> Result<List<T>, ModelFault>
-    ensures { Answers result (are_tables T.is_form (view value.now)) (records_of T.value (view value.now)) }
+fn test_in(alloc: Global, table: &Table, spot: Spot) -> Result<Test, ModelFault>
+    ensures { Answers result (test_breaches spot (table_view table.now)) (test_of (table_view table.now)) }
 {
-    match value {
-        Value::Array(items) => elements_in::<T>(alloc, items.as_slice()),
-        _ => refuse(),
+    let known = [Key::Name, Key::Cost, Key::Signals, Key::Mode];
+    check_keys(table, &known, spot.place())?;
+    let name = required::<Name>(alloc, table, spot.at(Key::Name))?;
+    let cost = required::<Cost>(alloc, table, spot.at(Key::Cost))?;
+    let signals = required::<List<Name>>(alloc, table, spot.at(Key::Signals))?;
+    let mode = optional::<Name>(alloc, table, spot.at(Key::Mode))?;
+    Ok(Test {
+        name,
+        cost,
+        signals,
+        mode,
+    })
+}
+
+impl FromValue for Test {
+    ghost breaches = { table_breaches test_breaches test_spot };
+
+    ghost stands_for = { table_of test_of };
+
+    fn read(alloc: Global, value: &Value, at: At) -> Result<Test, ModelFault> {
+        match value {
+            Value::Table(table) => test_in(alloc, table, at.test()),
+            _ => refuse(Code::M05, at.place()),
+        }
     }
 }
 
-/// The tables of an array.
-pub fn tables_at<T: FromTable>(
-    alloc: Global,
-    table: &Table,
-    key: &str,
-) -> Result<List<T>, ModelFault>
-    ensures { let value = get_member key.now (table_view table.now) in
-        Answers result (has (are_tables T.is_form) value) (value_or [] (records_of T.value) value) }
+fn point_in(alloc: Global, table: &Table, spot: Spot) -> Result<Point, ModelFault>
+    ensures { Answers result (point_breaches spot (table_view table.now)) (point_of (table_view table.now)) }
 {
-    match member(table, key) {
-        None => refuse(),
-        Some(value) => tables_in::<T>(alloc, value),
+    check_keys(table, &[Key::Name, Key::Test], spot.place())?;
+    let name = required::<Name>(alloc, table, spot.at(Key::Name))?;
+    let tests = list_at::<Test>(alloc, table, spot.at(Key::Test))?;
+    Ok(Point { name, tests })
+}
+
+impl FromValue for Point {
+    ghost breaches = { table_breaches point_breaches (item_spot PointKind) };
+
+    ghost stands_for = { table_of point_of };
+
+    fn read(alloc: Global, value: &Value, at: At) -> Result<Point, ModelFault> {
+        match value {
+            Value::Table(table) => point_in(alloc, table, at.item(Kind::Point)),
+            _ => refuse(Code::M05, at.place()),
+        }
     }
 }
 
-/// The tables of an array that may be absent.
-pub fn optional_tables_at<T: FromTable>(
-    alloc: Global,
-    table: &Table,
-    key: &str,
-) -> Result<List<T>, ModelFault>
-    ensures { let value = get_member key.now (table_view table.now) in
-        Answers result (may_have (are_tables T.is_form) value) (value_or [] (records_of T.value) value) }
+fn use_in(alloc: Global, table: &Table, spot: Spot) -> Result<Used, ModelFault>
+    ensures { Answers result (use_breaches spot (table_view table.now)) (use_of (table_view table.now)) }
 {
-    match member(table, key) {
-        None => Ok(List::new(alloc)),
-        Some(value) => tables_in::<T>(alloc, value),
+    check_keys(table, &[Key::Name, Key::Block], spot.place())?;
+    let name = required::<Name>(alloc, table, spot.at(Key::Name))?;
+    let block = required::<Name>(alloc, table, spot.at(Key::Block))?;
+    Ok(Used { name, block })
+}
+
+impl FromValue for Used {
+    ghost breaches = { table_breaches use_breaches (item_spot UseKind) };
+
+    ghost stands_for = { table_of use_of };
+
+    fn read(alloc: Global, value: &Value, at: At) -> Result<Used, ModelFault> {
+        match value {
+            Value::Table(table) => use_in(alloc, table, at.item(Kind::Use)),
+            _ => refuse(Code::M05, at.place()),
+        }
     }
+}
+
+/// The keys that are known in a part: `signals` only where there is a functional fault.
+fn part_keys(functional: Option<&Value>) -> &'static [Key]
+    ensures { result.now ≡ part_keys (option_map (λ x. view x.now) functional.entry) }
+{
+    match functional {
+        None => &[Key::Name, Key::Functional, Key::General, Key::Stops],
+        Some(_) => &[
+            Key::Name,
+            Key::Functional,
+            Key::Signals,
+            Key::General,
+            Key::Stops,
+        ],
+    }
+}
+
+/// The functional fault of a part, where there is one.
+fn functional_in(alloc: Global, table: &Table, spot: Spot) -> Result<Option<Functional>, ModelFault>
+    ensures { let functional = value_at FunctionalKey (table_view table.now) in
+        Answers result (functional_breaches spot (table_view table.now) functional) (functional_of (table_view table.now) functional) }
+{
+    match member(table, Key::Functional) {
+        None => Ok(None),
+        Some(value) => {
+            let weight = Weight::read(alloc, value, spot.at(Key::Functional))?;
+            let signals = required::<List<Name>>(alloc, table, spot.at(Key::Signals))?;
+            Ok(Some(Functional { weight, signals }))
+        }
+    }
+}
+
+fn part_in(alloc: Global, table: &Table, spot: Spot) -> Result<Part, ModelFault>
+    ensures { Answers result (part_breaches spot (table_view table.now)) (part_of (table_view table.now)) }
+{
+    let known = part_keys(member(table, Key::Functional));
+    check_keys(table, known, spot.place())?;
+    let name = required::<Name>(alloc, table, spot.at(Key::Name))?;
+    let functional = functional_in(alloc, table, spot)?;
+    let general = optional::<Weight>(alloc, table, spot.at(Key::General))?;
+    let stops = list_at::<Name>(alloc, table, spot.at(Key::Stops))?;
+    Ok(Part {
+        name,
+        functional,
+        general,
+        stops,
+    })
+}
+
+impl FromValue for Part {
+    ghost breaches = { table_breaches part_breaches (item_spot PartKind) };
+
+    ghost stands_for = { table_of part_of };
+
+    fn read(alloc: Global, value: &Value, at: At) -> Result<Part, ModelFault> {
+        match value {
+            Value::Table(table) => part_in(alloc, table, at.item(Kind::Part)),
+            _ => refuse(Code::M05, at.place()),
+        }
+    }
+}
+
+fn block_in(alloc: Global, table: &Table, spot: Spot) -> Result<Block, ModelFault>
+    ensures { Answers result (block_breaches spot (table_view table.now)) (block_of (table_view table.now)) }
+{
+    let known = [
+        Key::Name,
+        Key::Ports,
+        Key::Switches,
+        Key::Part,
+        Key::Use,
+        Key::Point,
+        Key::Link,
+    ];
+    check_keys(table, &known, spot.place())?;
+    let name = required::<Name>(alloc, table, spot.at(Key::Name))?;
+    let ports = list_at::<Name>(alloc, table, spot.at(Key::Ports))?;
+    let switches = list_at::<Name>(alloc, table, spot.at(Key::Switches))?;
+    let parts = list_at::<Part>(alloc, table, spot.at(Key::Part))?;
+    let uses = list_at::<Used>(alloc, table, spot.at(Key::Use))?;
+    let points = list_at::<Point>(alloc, table, spot.at(Key::Point))?;
+    let links = list_at::<Link>(alloc, table, spot.at(Key::Link))?;
+    Ok(Block {
+        name,
+        ports,
+        switches,
+        parts,
+        uses,
+        points,
+        links,
+    })
+}
+
+impl FromValue for Block {
+    ghost breaches = { table_breaches block_breaches block_spot };
+
+    ghost stands_for = { table_of block_of };
+
+    fn read(alloc: Global, value: &Value, at: At) -> Result<Block, ModelFault> {
+        match value {
+            Value::Table(table) => block_in(alloc, table, at.block()),
+            _ => refuse(Code::M05, at.place()),
+        }
+    }
+}
+
+/// The model of a document's table whose version is 1.
+fn model_in(alloc: Global, table: &Table) -> Result<Model, ModelFault>
+    ensures { Answers result (model_breaches (table_view table.now)) (model_of (table_view table.now)) }
+{
+    let known = [
+        Key::Version,
+        Key::Good,
+        Key::Top,
+        Key::Signals,
+        Key::Modes,
+        Key::Block,
+    ];
+    let spot = Spot::document();
+    check_keys(table, &known, Place::Document)?;
+    let good = required::<Good>(alloc, table, spot.at(Key::Good))?;
+    let top = required::<Name>(alloc, table, spot.at(Key::Top))?;
+    let signals = list_at::<Name>(alloc, table, spot.at(Key::Signals))?;
+    let modes = list_at::<Name>(alloc, table, spot.at(Key::Modes))?;
+    let blocks = required::<List<Block>>(alloc, table, spot.at(Key::Block))?;
+    Ok(Model {
+        good,
+        top,
+        signals,
+        modes,
+        blocks,
+    })
+}
+
+/// The model of a document's table.
+pub fn document_in(alloc: Global, table: &Table) -> Result<Model, ModelFault>
+    ensures { Answers result (document_breaches (table_view table.now)) (model_of (table_view table.now)) }
+{
+    let _version = required::<Version>(alloc, table, Spot::document().at(Key::Version))?;
+    model_in(alloc, table)
 }
