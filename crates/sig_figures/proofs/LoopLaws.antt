@@ -1,11 +1,11 @@
 -- Marks of nodes: marks are added, mode by mode, and the places of the marks are listed upwards.
-use Rattle.std.proofs.Common.{◌≡◌, ◌⊎◌, ℕ, zero, suc, ◌+◌, ◌<◌, ◌≤◌, List, [], ◌∷◌, ◌++◌, length, get_or, set, replicate, refl, sym, ap, ◌∙◌, arith, inl, inr, subst, add-one}
-use Rattle.std.specs.Prelude.{Bool, true, false, ◌||◌, ◌&&◌, ◌↔◌, cond, filter, Option, All}
+use Rattle.std.proofs.Common.{◌≡◌, ℕ, zero, suc, ◌+◌, ◌<◌, ◌≤◌, List, [], ◌∷◌, ◌++◌, length, set, replicate, refl, sym, ap, ◌∙◌, arith, inl, inr, subst, add-one}
+use Rattle.std.specs.Prelude.{Bool, true, false, ◌||◌, ◌↔◌, cond, filter, Option}
 use Rattle.std.specs.List.{Contains}
 use Rattle.std.specs.List.Sorted.{IsStrictlyIncreasing}
 use Rattle.std.proofs.lemmas.Bool.{cases_eq, cases_lt, or_cases, false≢true}
 use Rattle.std.proofs.lemmas.List.{get_or-set_same, get_or-set_other, get_or-replicate, get_or_past}
-use Rattle.std.proofs.lemmas.List.Elements.{filter_passes, All-contains, All-filter, All-from_get_or, Contains-push, Contains-append_left}
+use Rattle.std.proofs.lemmas.List.Elements.{filter_passes, All-contains, All-filter, Contains-push, Contains-append_left}
 use Rattle.std.proofs.lemmas.List.Kept.{IsStrictlyIncreasing-filter}
 use Rattle.seq_theory.specs.Problem.{count_up}
 use Rattle.sig_flat.specs.declared.flat.Flat.{Flat}

@@ -1,6 +1,6 @@
 -- What the figures name is there: each list is a part of the numbers of faults, tests or nodes.
-use Rattle.std.proofs.Common.{◌≡◌, ℕ, zero, suc, ◌+◌, ◌<◌, ◌≤◌, List, [], ◌∷◌, length, get_or, refl, sym, arith, subst}
-use Rattle.std.specs.Prelude.{Option, Some, None, not, All, find}
+use Rattle.std.proofs.Common.{◌≡◌, ℕ, zero, suc, ◌+◌, ◌<◌, ◌≤◌, List, length, get_or, refl, sym, arith, subst}
+use Rattle.std.specs.Prelude.{Option, Some, None, not, All}
 use Rattle.std.specs.List.{filter_map, cons_option}
 use Rattle.std.specs.Option.{option_map}
 use Rattle.std.proofs.lemmas.List.Elements.{All-nil, All-cons, All-filter, All-from_get_or, Contains-get_or}
@@ -10,7 +10,7 @@ use Rattle.sig_matrix.specs.declared.matrix.Matrix.{Matrix}
 use Rattle.sig_figures.specs.declared.summary.Figures.{Figures}
 use Rattle.sig_figures.specs.declared.summary.EqualTest.{EqualTest}
 use Rattle.sig_figures.specs.Coverage.{is_seen, sees_fault}
-use Rattle.sig_figures.specs.Columns.{same_column, earlier_equal, paired, tests_alike}
+use Rattle.sig_figures.specs.Columns.{same_column, earlier_equal, paired}
 use Rattle.sig_figures.specs.Figures.{AreFigures, IsPairOf, AreNamed}
 use Rattle.sig_figures.proofs.UpTo.{below-end, find-below}
 

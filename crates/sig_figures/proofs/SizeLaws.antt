@@ -1,26 +1,25 @@
 -- Counting into a list: one number more, and what the counts say of ambiguity groups.
-use Rattle.std.proofs.Common.{◌≡◌, ℕ, zero, suc, ◌+◌, ◌-◌, ◌<◌, ◌≤◌, ◌^◌, List, [], ◌∷◌, ◌++◌, length, get_or, set, take, replicate, map, refl, sym, ap, ◌∙◌, arith, inl, inr}
-use Rattle.std.specs.Prelude.{Bool, true, false, cond, nat_eq, nat_lt, count_by, filter, All, fold}
+use Rattle.std.proofs.Common.{◌≡◌, ℕ, zero, suc, ◌+◌, ◌-◌, ◌<◌, ◌≤◌, List, [], ◌∷◌, ◌++◌, length, get_or, set, replicate, map, refl, sym, ap, ◌∙◌, arith, inl, inr}
+use Rattle.std.specs.Prelude.{Bool, true, false, cond, nat_eq, nat_lt, count_by, filter, All}
 use Rattle.std.proofs.lemmas.Bool.{cases_eq, eq-eqb, ne_eqb, lt-ltb}
-use Rattle.std.proofs.lemmas.List.{get_or-set_same, get_or-set_other, length-set, get_or-replicate, length-replicate, map-append, take_more, length-map, length-take-le, get_or_read}
-use Rattle.std.proofs.lemmas.List.Elements.{All-map, All-from_get_or}
+use Rattle.std.proofs.lemmas.List.{get_or-set_same, get_or-set_other, length-set, get_or-replicate, length-replicate, map-append}
+use Rattle.std.proofs.lemmas.List.Elements.{All-from_get_or}
 use Rattle.std.proofs.lemmas.List.Folds.{fold-map}
 use Rattle.std.proofs.lemmas.List.Sums.{sum_by_push, count_by-le-length}
 use Rattle.seq_theory.specs.Problem.{count_up}
-use Rattle.seq_theory.specs.States.{System, class_of, firsts}
+use Rattle.seq_theory.specs.States.{System, class_of}
 use Rattle.seq_theory.proofs.StatesLaws.{class_of-there}
 use Rattle.sig_matrix.specs.declared.matrix.Matrix.{Matrix}
 use Rattle.sig_matrix.specs.Detection.{before_faults, state_count, system_of}
-use Rattle.sig_matrix.specs.Valid.{IsValid}
 use Rattle.sig_classes.specs.declared.classes.Classes.{Classes}
 use Rattle.sig_classes.specs.Classes.{AreClassesOf}
 use Rattle.sig_classes.proofs.ClassesLaws.{length-classes, length-weights, class-read}
-use Rattle.sig_classes.proofs.CountLaws.{length-count_up, length-by_number, get_or-by_number, by_number-from_items, by_number_more}
+use Rattle.sig_classes.proofs.CountLaws.{length-count_up, length-by_number, get_or-by_number, by_number-from_items}
 use Rattle.sig_figures.specs.declared.summary.SizeCount.{SizeCount}
 use Rattle.sig_figures.specs.Coverage.{all_faults}
 use Rattle.sig_figures.specs.Counts.{times_in, counts_of, count_at, some_counts}
 use Rattle.sig_figures.specs.Sizes.{states_in, group_size, faults_in_size, counted, size_counts}
-use Rattle.sig_figures.proofs.UpTo.{up-at, up-next, filter-yes, filter-no}
+use Rattle.sig_figures.proofs.UpTo.{filter-yes, filter-no}
 
 -- nothing is counted yet
 pub counts-none : (bound : ℕ) → replicate {A = ℕ} bound 0 ≡ counts_of [] bound

@@ -1,5 +1,5 @@
 -- Lists over the numbers from 0 up to one number, and up to the next: the last number is added at the end.
-use Rattle.std.proofs.Common.{◌≡◌, ℕ, zero, suc, ◌+◌, ◌-◌, ◌<◌, List, [], ◌∷◌, ◌++◌, length, get_or, refl, sym, ap, ◌∙◌, arith, append-nil, add-one, zero-add, inl, inr}
+use Rattle.std.proofs.Common.{◌≡◌, ℕ, zero, suc, ◌+◌, ◌-◌, ◌<◌, [], ◌∷◌, ◌++◌, get_or, refl, sym, ap, ◌∙◌, arith, append-nil, add-one, zero-add, inl, inr}
 use Rattle.std.specs.Prelude.{Bool, true, false, ◌||◌, ◌&&◌, cond, filter, sum_by, Option, None, Some, find, All}
 use Rattle.std.specs.List.{list_any, list_all, filter_map, cons_option}
 use Rattle.std.specs.Option.{option_or}

@@ -1,4 +1,4 @@
-use Rattle.std.proofs.Common.{◌≡◌, ℕ, ap, sym, arith, ◌∙◌}
+use Rattle.std.proofs.Common.{ℕ, ap, sym, arith, ◌∙◌}
 use Rattle.std.specs.Prelude.{not}
 use Rattle.sig_figures.specs.Coverage.{sees_fault}
 use Rattle.sig_figures.proofs.UpTo.{filter-yes, filter-no}

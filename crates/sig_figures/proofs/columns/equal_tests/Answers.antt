@@ -1,4 +1,4 @@
-use Rattle.std.proofs.Common.{◌≡◌, ℕ, ◌∷◌, ◌++◌, [], ap, sym, ◌∙◌}
+use Rattle.std.proofs.Common.{ℕ, ◌∷◌, ◌++◌, [], ap, sym, ◌∙◌}
 use Rattle.std.specs.Option.{option_map}
 use Rattle.sig_figures.specs.Columns.{paired, earlier_equal}
 use Rattle.sig_figures.proofs.UpTo.{filter_map-yes, filter_map-no}

@@ -1,4 +1,4 @@
-use Rattle.std.proofs.Common.{bit_or, sym, subst, ◌-◌, ◌^◌, arith}
+use Rattle.std.proofs.Common.{bit_or, sym, subst, ◌-◌, arith}
 use Rattle.sig_figures.specs.Gathering.{AddsBits}
 use Rattle.sig_figures.proofs.Words.{adds-those, adds-others}
 use Rattle.sig_figures.proofs.columns.with_word.Goals as goal

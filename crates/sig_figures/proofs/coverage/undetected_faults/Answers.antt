@@ -1,4 +1,4 @@
-use Rattle.std.proofs.Common.{◌≡◌, ℕ, ap, sym, ◌∙◌}
+use Rattle.std.proofs.Common.{ℕ, ap, sym}
 use Rattle.std.specs.Prelude.{not}
 use Rattle.sig_figures.specs.Coverage.{is_seen}
 use Rattle.sig_figures.proofs.UpTo.{filter-yes, filter-no}

@@ -1,4 +1,4 @@
-use Rattle.std.proofs.Common.{◌≡◌, List, ℕ, length, ap, ◌∙◌}
+use Rattle.std.proofs.Common.{List, length, ap, ◌∙◌}
 use Rattle.std.specs.Prelude.{Bool, filter}
 use Rattle.seq_theory.specs.Problem.{count_up}
 use Rattle.sig_reach.specs.Marks.{is_marked}

@@ -1,4 +1,3 @@
-use Rattle.std.proofs.Common.{◌≡◌, ap, sym, ◌∙◌}
 use Rattle.sig_reach.specs.Marks.{is_marked}
 use Rattle.sig_figures.proofs.UpTo.{filter-yes, filter-no}
 use Rattle.sig_figures.proofs.loops.marked.Goals as goal

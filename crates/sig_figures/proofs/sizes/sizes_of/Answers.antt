@@ -1,4 +1,4 @@
-use Rattle.std.proofs.Common.{◌≡◌, ◌+◌, length, ap, ◌∙◌, arith}
+use Rattle.std.proofs.Common.{◌+◌, length, ap, ◌∙◌, arith}
 use Rattle.sig_classes.proofs.CountLaws.{length-by_number}
 use Rattle.sig_classes.proofs.GroupingLaws.{few}
 use Rattle.sig_figures.specs.Counts.{times_in, counts_of}

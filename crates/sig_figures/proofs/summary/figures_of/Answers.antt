@@ -1,5 +1,4 @@
-use Rattle.std.proofs.Common.{◌≡◌, ◌∙◌, length, arith}
-use Rattle.seq_theory.specs.States.{firsts}
+use Rattle.std.proofs.Common.{arith}
 use Rattle.sig_matrix.specs.Detection.{system_of}
 use Rattle.sig_classes.proofs.ClassesLaws.{length-weights}
 use Rattle.sig_classes.proofs.GroupingLaws.{begun-le, few}

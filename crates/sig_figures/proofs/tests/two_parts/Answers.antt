@@ -1,8 +1,8 @@
 -- The two parts are valid: its lists are short, and each number in them is that of a node.
-use Rattle.std.proofs.Common.{◌≡◌, ℕ, zero, suc, ◌+◌, ◌<◌, ◌≤◌, List, [], ◌∷◌, ◌++◌, length, refl, sym, ap, ◌∙◌, arith, subst, inl}
-use Rattle.std.specs.Prelude.{Bool, true, false, ◌&&◌, nat_lt}
+use Rattle.std.proofs.Common.{◌≡◌, zero, suc, ◌+◌, ◌<◌, ◌≤◌, List, [], ◌∷◌, ◌++◌, length, sym, ap, ◌∙◌, arith, subst, inl}
+use Rattle.std.specs.Prelude.{Bool, true, ◌&&◌, nat_lt, nat_le}
 use Rattle.std.specs.List.{Contains, list_all}
-use Rattle.std.proofs.lemmas.Bool.{and_parts, ltb-true}
+use Rattle.std.proofs.lemmas.Bool.{and_parts, ltb-true, leb-true}
 use Rattle.std.proofs.lemmas.List.{length_push}
 use Rattle.sig_flat.specs.declared.flat.Fault.{Fault}
 use Rattle.sig_flat.specs.declared.flat.FlatLink.{FlatLink}
@@ -56,7 +56,16 @@ returns-clause-valid c =
           let from = ltb-true link.from 4 both.0 in
           let to = ltb-true link.to 4 both.1 in
           (omega arith, omega arith);
-      fault_parts = ?;
-      test_points = ?;
+      fault_parts = (let heavy = c.requires.heavy in let an = c.in_ok-fault.ensures.node in let aw = c.in_ok-fault.ensures.weight in let bn = c.in_ok-fault-2.ensures.node in let bw = c.in_ok-fault-2.ensures.weight in
+          all-of-two (λ (f : Fault). (f.node < length c.push-5.new.self) × (1 ≤ f.weight) × (f.weight ≤ 1000000)) _ _ _ _ _ c.new-faults.ensures c.in_ok-push-6.ensures.ok c.in_ok-push-7.ensures.ok (omega arith, omega arith, omega arith) (omega arith, omega arith, omega arith));
+      test_points = λ test i.
+          let all = and_parts (nat_lt test.node 4 && nat_lt test.mode 1) (nat_le 1 test.cost && nat_le test.cost 1000000) (of-all (λ (t : FlatTest). (nat_lt t.node 4 && nat_lt t.mode 1) && (nat_le 1 t.cost && nat_le t.cost 1000000)) c.args.tests test c.requires.points i) in
+          let there = and_parts (nat_lt test.node 4) (nat_lt test.mode 1) all.0 in
+          let costs = and_parts (nat_le 1 test.cost) (nat_le test.cost 1000000) all.1 in
+          let node = ltb-true test.node 4 there.0 in
+          let mode = ltb-true test.mode 1 there.1 in
+          let least = leb-true 1 test.cost costs.0 in
+          let most = leb-true test.cost 1000000 costs.1 in
+          (omega arith, omega arith, omega arith, omega arith);
       state = inl (omega arith);
     }
