@@ -1,0 +1,3 @@
+pub mod GroupOrder
+pub mod Mapping
+pub mod Ordered

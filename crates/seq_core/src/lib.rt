@@ -1,0 +1,12 @@
+//! The core of the search: the entered groups with their bounds, and the events that change them.
+//!
+//! `Places` maps groups to places. `Core` is the list of rows under three events, enter, raise and cap,
+//! each of which it accepts exactly where the rows allow it; so the rows stay sound whatever is played.
+//! `lows` and `vals` work out the best bounds that a set of entered groups gives.
+#![tactic(auto)]
+
+mod order;
+mod places;
+mod slots;
+
+pub use places::Places;
