@@ -1,2 +1,5 @@
 pub mod OrderLaws
 pub mod MappingLaws
+pub mod TableLaws
+pub mod ChangeLaws
+pub mod SumLaws

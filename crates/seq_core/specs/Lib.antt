@@ -1,3 +1,9 @@
 pub mod GroupOrder
 pub mod Mapping
 pub mod Ordered
+pub mod RowsOf
+pub mod KeptOf
+pub mod Changes
+pub mod Tables
+pub mod Sums
+pub mod Allowed

@@ -5,8 +5,11 @@
 //! `lows` and `vals` work out the best bounds that a set of entered groups gives.
 #![tactic(auto)]
 
+mod kept;
 mod order;
 mod places;
 mod slots;
+mod table;
 
+pub use kept::Kept;
 pub use places::Places;
