@@ -25,7 +25,7 @@ use Rattle.seq_inst.specs.Shapes.{height, leaf_count, AsksSplitting}
 use Rattle.seq_inst.proofs.MembersLaws.{length-count_up}
 use Rattle.seq_inst.proofs.ShapeLaws.{leaves-le, height-lt-leaves}
 use Rattle.seq_finish.proofs.StratLaws.{the-value, strat-splitting}
-use Rattle.seq_core.specs.CodeRows.{row_from, rows_from}
+use Rattle.seq_core.specs.RowsOf.{row_of as row_from, rows_of as rows_from}
 use Rattle.seq_finish.specs.Entered.{entered_in, settled_row, settled_rows, AreEnough, IsFull, MayStop}
 use Rattle.seq_finish.specs.Outcomes.{AreEntered, IsSettled, IsRightOutcome}
 use Rattle.seq_finish.specs.Laws.{OutcomeStands, OutcomesHold}
@@ -60,12 +60,12 @@ outcomes_hold p limit least o weighed told r l =
 
 -- ---- the rows of a search ----
 
-row-among : (rows : List Row) (k : ℕ) (d : Row) → k < length rows → IsRow (row_from (slice_index_or rows k d)) (rows_from rows)
+pub row-among : (rows : List Row) (k : ℕ) (d : Row) → k < length rows → IsRow (row_from (slice_index_or rows k d)) (rows_from rows)
 row-among [] k d lt = absurd (let bad : ⊥ = omega arith in bad)
 row-among (r ∷ rest) zero d lt = inl refl
 row-among (r ∷ rest) (suc k) d lt = inr (row-among rest k d (omega arith))
 
-row-entered : (rows : List Row) (k : ℕ) (d : Row) → k < length rows → is_entered (entered_in rows) (members (slice_index_or rows k d).group) ≡ true
+pub row-entered : (rows : List Row) (k : ℕ) (d : Row) → k < length rows → is_entered (entered_in rows) (members (slice_index_or rows k d).group) ≡ true
 row-entered [] k d lt = absurd (let bad : ⊥ = omega arith in bad)
 row-entered (r ∷ rest) zero d lt = or-left _ _ (same_group-refl (members r.group))
 row-entered (r ∷ rest) (suc k) d lt = or-right (same_group (members (slice_index_or rest k d).group) (members r.group)) _ (row-entered rest k d (omega arith))

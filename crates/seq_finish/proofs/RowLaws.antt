@@ -15,7 +15,7 @@ use Rattle.seq_theory.proofs.LowLaws.{low-end}
 use Rattle.seq_inst.specs.declared.group.Group.{Group}
 use Rattle.seq_inst.specs.declared.outcome.Row.{Row}
 use Rattle.seq_inst.specs.Members.{members}
-use Rattle.seq_core.specs.CodeRows.{row_from, rows_from}
+use Rattle.seq_core.specs.RowsOf.{row_of as row_from, rows_of as rows_from}
 use Rattle.seq_finish.specs.Entered.{entered_in, settled_row}
 use Rattle.seq_finish.specs.Outcomes.{IsSettled}
 

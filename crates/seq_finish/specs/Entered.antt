@@ -1,5 +1,5 @@
 -- What the set of entered groups says of each of them.
-use Rattle.std.specs.Prelude.{◌≡◌, ◌⊎◌, ℕ, ◌+◌, false, List, [], ◌∷◌, length, map, unwrap_or, Option, Some, None}
+use Rattle.std.specs.Prelude.{◌≡◌, ◌⊎◌, ℕ, false, List, length, map, unwrap_or, Option, Some, None}
 use Rattle.seq_theory.specs.Problem.{Problem, all_classes}
 use Rattle.seq_theory.specs.Graph.{is_entered, low, val, IsReal}
 use Rattle.seq_theory.specs.Rows.{groups_of, no_value}
@@ -7,8 +7,7 @@ use Rattle.seq_inst.specs.declared.group.Group.{Group}
 use Rattle.seq_inst.specs.declared.outcome.Row.{Row}
 use Rattle.seq_inst.specs.Members.{members}
 use Rattle.seq_inst.specs.Valid.{no_class}
-use Rattle.seq_core.specs.CodeRows.{rows_from}
-use Rattle.seq_core.specs.Mapping.{Placed}
+use Rattle.seq_core.specs.RowsOf.{rows_of as rows_from}
 
 -- the groups that were entered, one by one
 abbrev pub entered_in : List Row → List (List ℕ)
@@ -16,11 +15,6 @@ entered_in rows = groups_of (rows_from rows)
 
 abbrev pub no_row : Row
 no_row = record { group = no_class; low = 0; up = 0 }
-
--- the groups of rows with their places, from a first place on
-abbrev pub placed_rows : ℕ → List Row → List Placed
-placed_rows n [] = []
-placed_rows n (r ∷ rest) = record { group = members r.group; place = n } ∷ placed_rows (n + 1) rest
 
 -- the row of a group with its low and its value over all entered groups
 abbrev pub settled_row : Problem → List (List ℕ) → Row → Row

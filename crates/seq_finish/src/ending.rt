@@ -7,7 +7,7 @@ ghost use Rattle.seq_inst.specs.Instances.{problem_of};
 ghost use Rattle.seq_inst.specs.Members.{members};
 ghost use Rattle.seq_inst.specs.Trees.{tree_of};
 ghost use Rattle.seq_inst.specs.Shapes.{height, leaf_count, AsksSplitting};
-ghost use Rattle.seq_core.specs.CodeRows.{rows_from};
+ghost use Rattle.seq_core.specs.RowsOf.{rows_of as rows_from};
 ghost use Rattle.seq_finish.specs.Entered.{entered_in, settled_rows, MayStop};
 ghost use Rattle.seq_finish.specs.Outcomes.{AreEntered, IsRightOutcome};
 

@@ -3,10 +3,11 @@ ghost use Rattle.std.specs.Prelude.{◌≡◌, ◌^◌, ◌<◌, All, IfOk, IsSo
 ghost use Rattle.std.specs.Option.{option_map};
 ghost use Rattle.seq_theory.specs.Graph.{low, val};
 ghost use Rattle.seq_theory.specs.Rows.{AreDistinct, row_of};
-ghost use Rattle.seq_core.specs.CodeRows.{row_from, rows_from};
+ghost use Rattle.seq_core.specs.RowsOf.{row_of as row_from, rows_of as rows_from};
 ghost use Rattle.seq_inst.specs.Members.{members};
 ghost use Rattle.seq_inst.specs.Instances.{problem_of};
-ghost use Rattle.seq_finish.specs.Entered.{entered_in, placed_rows};
+ghost use Rattle.seq_core.specs.Tables.{numbered};
+ghost use Rattle.seq_finish.specs.Entered.{entered_in};
 ghost use Rattle.seq_finish.specs.Outcomes.{IsSettled};
 
 use seq_core::Places;
@@ -24,7 +25,7 @@ pub(crate) struct Bounds {
 pub(crate) fn index_of(alloc: Global, rows: &[Row]) -> Result<Places, AllocError>
     requires distinct { AreDistinct (entered_in rows.now) }
     requires few { length rows.now < 2 ^ 32 }
-    ensures { IfOk result (λ m. m.placed ≡ placed_rows 0 rows.now) }
+    ensures { IfOk result (λ m. m.placed ≡ numbered 0 rows.now) }
 {
     let mut places = Places::new(alloc, rows.len() as u32)?;
     for i in 0..rows.len() {
@@ -35,7 +36,7 @@ pub(crate) fn index_of(alloc: Global, rows: &[Row]) -> Result<Places, AllocError
 
 /// The group's row, if it has one.
 fn row_at(rows: &[Row], places: &Places, group: &Group) -> Option<Row>
-    requires { places.now.placed ≡ placed_rows 0 rows.now }
+    requires { places.now.placed ≡ numbered 0 rows.now }
     ensures { option_map row_from result ≡ row_of (rows_from rows.now) (members group.now) }
 {
     match places.find(group) {
@@ -46,7 +47,7 @@ fn row_at(rows: &[Row], places: &Places, group: &Group) -> Option<Row>
 
 /// The value of the group over the entered groups: none where it was not entered.
 pub(crate) fn value_of(inst: &Instance, rows: &[Row], places: &Places, group: &Group) -> Option<u64>
-    requires placed { places.now.placed ≡ placed_rows 0 rows.now }
+    requires placed { places.now.placed ≡ numbered 0 rows.now }
     requires settled { All (IsSettled (problem_of inst.now) (entered_in rows.now)) rows.now }
     ensures { result ≡ val (problem_of inst.now) (entered_in rows.now) (members group.now) }
 {
@@ -61,7 +62,7 @@ pub(crate) fn value_of(inst: &Instance, rows: &[Row], places: &Places, group: &G
 
 /// The low and the value of a group that has a value.
 pub(crate) fn bounds_of(inst: &Instance, rows: &[Row], places: &Places, group: &Group) -> Bounds
-    requires placed { places.now.placed ≡ placed_rows 0 rows.now }
+    requires placed { places.now.placed ≡ numbered 0 rows.now }
     requires settled { All (IsSettled (problem_of inst.now) (entered_in rows.now)) rows.now }
     requires valued { IsSome (val (problem_of inst.now) (entered_in rows.now) (members group.now)) }
     ensures low { result.low ≡ low (problem_of inst.now) (entered_in rows.now) (members group.now) }

@@ -8,7 +8,8 @@ ghost use Rattle.seq_theory.specs.Graph.{val, is_value, step_value, value_test a
 ghost use Rattle.seq_inst.specs.Members.{members};
 ghost use Rattle.seq_inst.specs.Instances.{problem_of};
 ghost use Rattle.seq_inst.specs.Trees.{tree_of};
-ghost use Rattle.seq_finish.specs.Entered.{entered_in, placed_rows};
+ghost use Rattle.seq_core.specs.Tables.{numbered};
+ghost use Rattle.seq_finish.specs.Entered.{entered_in};
 ghost use Rattle.seq_finish.specs.Outcomes.{IsSettled};
 
 use crate::places::value_of;
@@ -30,7 +31,7 @@ fn reaches(
     weight: u64,
     value: u64,
 ) -> bool
-    requires placed { places.now.placed ≡ placed_rows 0 rows.now }
+    requires placed { places.now.placed ≡ numbered 0 rows.now }
     requires settled { All (IsSettled (problem_of inst.now) (entered_in rows.now)) rows.now }
     requires within { IsWithin (problem_of inst.now) (members group.now) }
     requires there { test < vec_len inst.now.costs }
@@ -52,7 +53,7 @@ fn reaches(
 
 /// The lowest test that reaches the group's value, where greedy costs more.
 fn value_test(inst: &Instance, rows: &[Row], places: &Places, group: &Group, value: u64) -> u32
-    requires placed { places.now.placed ≡ placed_rows 0 rows.now }
+    requires placed { places.now.placed ≡ numbered 0 rows.now }
     requires settled { All (IsSettled (problem_of inst.now) (entered_in rows.now)) rows.now }
     requires within { IsWithin (problem_of inst.now) (members group.now) }
     requires value { val (problem_of inst.now) (entered_in rows.now) (members group.now) ≡ Some value }
@@ -79,7 +80,7 @@ pub(crate) fn strategy_of(
     places: &Places,
     group: &Group,
 ) -> Result<Strategy, AllocError>
-    requires placed { places.now.placed ≡ placed_rows 0 rows.now }
+    requires placed { places.now.placed ≡ numbered 0 rows.now }
     requires settled { All (IsSettled (problem_of inst.now) (entered_in rows.now)) rows.now }
     requires within { IsWithin (problem_of inst.now) (members group.now) }
     requires valued { IsSome (val (problem_of inst.now) (entered_in rows.now) (members group.now)) }
