@@ -1,13 +1,13 @@
 -- The outcome that is made from the rows of a search is right, and what a right outcome says. The set of entered groups
 -- stays the same when rows are settled, so whatever was sound of the search's rows holds of the outcome's.
 use Rattle.std.proofs.Common.{◌≡◌, ℕ, zero, suc, ◌<◌, ◌≤◌, List, [], ◌∷◌, length, map, refl, sym, ap, ◌∙◌, arith, inl, inr, subst, Option, Some, None}
-use Rattle.std.specs.Prelude.{true, false, All, IsSome, is_some, unwrap_or, slice_index_or, vec_len}
+use Rattle.std.specs.Prelude.{true, false, All, IsSome, is_some, slice_index_or, vec_len}
 use Rattle.std.proofs.lemmas.Bool.{cases_Bool, cases_lt}
 use Rattle.std.proofs.lemmas.List.Elements.{All-map}
 use Rattle.seq_theory.specs.Problem.{Problem, IsWithin, AreTold, all_classes, is_end}
 use Rattle.seq_theory.specs.Tree.{Tree, tree_cost, Solves}
 use Rattle.seq_theory.specs.Graph.{same_group, is_entered, low, val, strat, IsReal}
-use Rattle.seq_theory.specs.Rows.{Row as PlainRow, no_value, groups_of, IsRow, AreDistinct, IsSound}
+use Rattle.seq_theory.specs.Rows.{Row as PlainRow, groups_of, IsRow, AreDistinct, IsSound}
 use Rattle.seq_theory.proofs.LeastLaws.{count_up-IsIn}
 use Rattle.seq_theory.proofs.PublicLaws.{entered_holds}
 use Rattle.seq_theory.proofs.RowLaws.{same_group-refl, or-left, or-right, wanted-within}
@@ -26,7 +26,8 @@ use Rattle.seq_inst.proofs.MembersLaws.{length-count_up}
 use Rattle.seq_inst.proofs.ShapeLaws.{leaves-le, height-lt-leaves}
 use Rattle.seq_finish.proofs.StratLaws.{the-value, strat-splitting}
 use Rattle.seq_core.specs.RowsOf.{row_of as row_from, rows_of as rows_from}
-use Rattle.seq_finish.specs.Entered.{entered_in, settled_row, settled_rows, AreEnough, IsFull, MayStop}
+use Rattle.seq_core.specs.Settled.{groups_in, value_or, AreGroups, settled_row, settled_rows}
+use Rattle.seq_finish.specs.Entered.{AreEnough, IsFull, MayStop}
 use Rattle.seq_finish.specs.Outcomes.{AreEntered, IsSettled, IsRightOutcome}
 use Rattle.seq_finish.specs.Laws.{OutcomeStands, OutcomesHold}
 
@@ -43,7 +44,7 @@ different e = cc
 
 pub outcomes_hold : OutcomesHold
 outcomes_hold p limit least o weighed told r l =
-    let e = entered_holds p (entered_in o.rows.items) (all_classes p) least weighed told (within-all p) l in
+    let e = entered_holds p (groups_in o.rows.items) (all_classes p) least weighed told (within-all p) l in
     let below : o.low ≤ least = subst (λ n. n ≤ least) r.low_is e.low_low in
     let above : least ≤ o.cost = e.val_high o.cost r.cost_is in
     record {
@@ -65,7 +66,7 @@ row-among [] k d lt = absurd (let bad : ⊥ = omega arith in bad)
 row-among (r ∷ rest) zero d lt = inl refl
 row-among (r ∷ rest) (suc k) d lt = inr (row-among rest k d (omega arith))
 
-pub row-entered : (rows : List Row) (k : ℕ) (d : Row) → k < length rows → is_entered (entered_in rows) (members (slice_index_or rows k d).group) ≡ true
+pub row-entered : (rows : List Row) (k : ℕ) (d : Row) → k < length rows → is_entered (groups_in rows) (members (slice_index_or rows k d).group) ≡ true
 row-entered [] k d lt = absurd (let bad : ⊥ = omega arith in bad)
 row-entered (r ∷ rest) zero d lt = or-left _ _ (same_group-refl (members r.group))
 row-entered (r ∷ rest) (suc k) d lt = or-right (same_group (members (slice_index_or rest k d).group) (members r.group)) _ (row-entered rest k d (omega arith))
@@ -74,20 +75,21 @@ module _ (p : Problem) where
   pub rows-real : (limit : ℕ) (rows : List Row) → IsSound p limit (rows_from rows) → All (λ r. IsReal p (members r.group)) rows
   rows-real limit rows s k d lt = s.real _ (row-among rows k d lt)
 
-  pub rows-within : (limit : ℕ) (rows : List Row) → IsSound p limit (rows_from rows) → All (λ r. IsWithin p (members r.group)) rows
-  rows-within limit rows s k d lt = wanted-within p _ (rows-real limit rows s k d lt).wanted
-
-  pub rows-more : (limit : ℕ) (rows : List Row) → IsSound p limit (rows_from rows) → All (λ r. is_end p (members r.group) ≡ false) rows
-  rows-more limit rows s k d lt = (rows-real limit rows s k d lt).goals
+  pub rows-groups : (limit : ℕ) (rows : List Row) → IsSound p limit (rows_from rows) → AreGroups p rows
+  rows-groups limit rows s = record {
+    distinct = s.distinct;
+    within = λ r i. wanted-within p r.group (s.real r i).wanted;
+    goals = λ r i. (s.real r i).goals;
+  }
 
   -- ---- settled rows ----
 
-  settled-same : (other : List (List ℕ)) (rows : List Row) → entered_in (map (settled_row p other) rows) ≡ entered_in rows
+  settled-same : (other : List (List ℕ)) (rows : List Row) → groups_in (map (settled_row p other) rows) ≡ groups_in rows
   settled-same other [] = refl
   settled-same other (r ∷ rest) = ap (λ l. members r.group ∷ l) (settled-same other rest)
 
-  pub settled-entered : (rows : List Row) → entered_in (settled_rows p rows) ≡ entered_in rows
-  settled-entered rows = settled-same (entered_in rows) rows
+  pub settled-entered : (rows : List Row) → groups_in (settled_rows p rows) ≡ groups_in rows
+  settled-entered rows = settled-same (groups_in rows) rows
 
   length-rows : (rows : List Row) → length (rows_from rows) ≡ length rows
   length-rows [] = refl
@@ -97,23 +99,23 @@ module _ (p : Problem) where
   length-settled other [] = refl
   length-settled other (r ∷ rest) = ap suc (length-settled other rest)
 
-  or-some : (o : Option ℕ) (v : ℕ) → o ≡ Some v → o ≡ Some (unwrap_or o no_value)
+  or-some : (o : Option ℕ) (v : ℕ) → o ≡ Some v → o ≡ Some (value_or o)
   or-some o v e = rw e refl
 
-  pub settled-all : (limit : ℕ) (rows : List Row) → IsSound p limit (rows_from rows) → All (IsSettled p (entered_in (settled_rows p rows))) (settled_rows p rows)
+  pub settled-all : (limit : ℕ) (rows : List Row) → IsSound p limit (rows_from rows) → All (IsSettled p (groups_in (settled_rows p rows))) (settled_rows p rows)
   settled-all limit rows s = subst (λ g. All (IsSettled p g) (settled_rows p rows)) (sym (settled-entered rows))
-      (All-map (IsSettled p (entered_in rows)) (settled_row p (entered_in rows)) rows (λ k d lt.
+      (All-map (IsSettled p (groups_in rows)) (settled_row p (groups_in rows)) rows (λ k d lt.
       let r = slice_index_or rows k d in
       record {
         low_is = refl;
-        up_is = or-some (val p (entered_in rows) (members r.group)) _ (val-entered p (entered_in rows) (members r.group) (rows-more limit rows s k d lt) (row-entered rows k d lt));
+        up_is = or-some (val p (groups_in rows) (members r.group)) _ (val-entered p (groups_in rows) (members r.group) (rows-real limit rows s k d lt).goals (row-entered rows k d lt));
       }))
 
-  pub are-entered : (limit : ℕ) (rows : List Row) → IsSound p limit (rows_from rows) → (is_end p (all_classes p) ≡ false → is_entered (entered_in rows) (all_classes p) ≡ true) → AreEntered p limit (settled_rows p rows)
+  pub are-entered : (limit : ℕ) (rows : List Row) → IsSound p limit (rows_from rows) → (is_end p (all_classes p) ≡ false → is_entered (groups_in rows) (all_classes p) ≡ true) → AreEntered p limit (settled_rows p rows)
   are-entered limit rows s root = record {
     distinct = subst AreDistinct (sym (settled-entered rows)) s.distinct;
-    real = All-map (λ r. IsReal p (members r.group)) (settled_row p (entered_in rows)) rows (rows-real limit rows s);
-    few = (let f = s.few in let l = length-rows rows in let m = length-settled (entered_in rows) rows in omega arith);
+    real = All-map (λ r. IsReal p (members r.group)) (settled_row p (groups_in rows)) rows (rows-real limit rows s);
+    few = (let f = s.few in let l = length-rows rows in let m = length-settled (groups_in rows) rows in omega arith);
     root = λ e. subst (λ g. is_entered g (all_classes p) ≡ true) (sym (settled-entered rows)) (root e);
   }
 
@@ -127,16 +129,16 @@ module _ (p : Problem) where
   -- ---- the outcome ----
 
   pub outcome-right : (limit : ℕ) (rows : List Row) (missed : Option Group) (o : Outcome) → IsSound p limit (rows_from rows)
-      → (is_end p (all_classes p) ≡ false → is_entered (entered_in rows) (all_classes p) ≡ true) → MayStop p limit (entered_in rows) missed
-      → o.rows.items ≡ settled_rows p rows → tree_of o.strategy ≡ strat p (entered_in rows) (all_classes p)
-      → val p (entered_in rows) (all_classes p) ≡ Some o.cost → o.low ≡ low p (entered_in rows) (all_classes p) → o.limit ≡ limit
+      → (is_end p (all_classes p) ≡ false → is_entered (groups_in rows) (all_classes p) ≡ true) → MayStop p limit (groups_in rows) missed
+      → o.rows.items ≡ settled_rows p rows → tree_of o.strategy ≡ strat p (groups_in rows) (all_classes p)
+      → val p (groups_in rows) (all_classes p) ≡ Some o.cost → o.low ≡ low p (groups_in rows) (all_classes p) → o.limit ≡ limit
       → (o.verdict ≡ Optimal → o.low ≡ o.cost) → (o.low ≡ o.cost → o.verdict ≡ Optimal)
       → (o.verdict ≡ Optimal → o.missed ≡ None) → (o.verdict ≡ Bounded → o.missed ≡ missed) → IsRightOutcome p limit o
   outcome-right limit rows missed o s root stop items tree cost lows limit_is to from optimal bounded =
-      let same : entered_in o.rows.items ≡ entered_in rows = ap entered_in items ∙ settled-entered rows in
+      let same : groups_in o.rows.items ≡ groups_in rows = ap groups_in items ∙ settled-entered rows in
       record {
         entered = subst (AreEntered p limit) (sym items) (are-entered limit rows s root);
-        settled = subst (λ l. All (IsSettled p (entered_in l)) l) (sym items) (settled-all limit rows s);
+        settled = subst (λ l. All (IsSettled p (groups_in l)) l) (sym items) (settled-all limit rows s);
         strategy_is = tree ∙ ap (λ g. strat p g (all_classes p)) (sym same);
         cost_is = ap (λ g. val p g (all_classes p)) same ∙ cost;
         low_is = ap (λ g. low p g (all_classes p)) same ∙ sym lows;
@@ -145,7 +147,7 @@ module _ (p : Problem) where
         none_missed = optimal;
         full = λ v. elim stop [
           | inl enough ↦ absurd (different (sym (from (lows ∙ some_equal _ o.cost (sym enough ∙ cost))) ∙ v))
-          | inr full ↦ subst (λ g. IsFull p limit g o.missed) (sym same) (subst (IsFull p limit (entered_in rows)) (sym (bounded v)) full)
+          | inr full ↦ subst (λ g. IsFull p limit g o.missed) (sym same) (subst (IsFull p limit (groups_in rows)) (sym (bounded v)) full)
         ];
       }
 

@@ -12,7 +12,7 @@ use Rattle.seq_inst.specs.Members.{members}
 use Rattle.seq_core.specs.RowsOf.{row_of as row_from, rows_of as rows_from}
 use Rattle.seq_core.specs.Mapping.{Placed, place_of}
 use Rattle.seq_core.specs.Tables.{numbered}
-use Rattle.seq_finish.specs.Entered.{entered_in}
+use Rattle.seq_core.specs.Settled.{groups_in}
 
 -- ---- making the map ----
 
@@ -37,12 +37,12 @@ not-same a b e = elim (cases_Bool (same_group a b)) [
 ]
 
 -- a group that is one of the rest is not the first of distinct ones
-other-than : (rows : List Row) (g : List ℕ) (i : ℕ) (d : Row) → i < length rows → is_entered (entered_in rows) g ≡ false → same_group g (members (get_or rows i d).group) ≡ false
+other-than : (rows : List Row) (g : List ℕ) (i : ℕ) (d : Row) → i < length rows → is_entered (groups_in rows) g ≡ false → same_group g (members (get_or rows i d).group) ≡ false
 other-than [] g i d lt e = absurd (let bad : ⊥ = omega arith in bad)
-other-than (r ∷ rest) g zero d lt e = (or_parts (same_group g (members r.group)) (is_entered (entered_in rest) g) e).0
-other-than (r ∷ rest) g (suc i) d lt e = other-than rest g i d (omega arith) (or_parts (same_group g (members r.group)) (is_entered (entered_in rest) g) e).1
+other-than (r ∷ rest) g zero d lt e = (or_parts (same_group g (members r.group)) (is_entered (groups_in rest) g) e).0
+other-than (r ∷ rest) g (suc i) d lt e = other-than rest g i d (omega arith) (or_parts (same_group g (members r.group)) (is_entered (groups_in rest) g) e).1
 
-pub absent : (n : ℕ) (rows : List Row) (i : ℕ) (d : Row) → i < length rows → AreDistinct (entered_in rows) → place_of (numbered n (take i rows)) (members (get_or rows i d).group) ≡ None
+pub absent : (n : ℕ) (rows : List Row) (i : ℕ) (d : Row) → i < length rows → AreDistinct (groups_in rows) → place_of (numbered n (take i rows)) (members (get_or rows i d).group) ≡ None
 absent n [] i d lt distinct = absurd (let bad : ⊥ = omega arith in bad)
 absent n (r ∷ rest) zero d lt distinct = refl
 absent n (r ∷ rest) (suc i) d lt distinct =

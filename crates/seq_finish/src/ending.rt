@@ -8,7 +8,8 @@ ghost use Rattle.seq_inst.specs.Members.{members};
 ghost use Rattle.seq_inst.specs.Trees.{tree_of};
 ghost use Rattle.seq_inst.specs.Shapes.{height, leaf_count, AsksSplitting};
 ghost use Rattle.seq_core.specs.RowsOf.{rows_of as rows_from};
-ghost use Rattle.seq_finish.specs.Entered.{entered_in, settled_rows, MayStop};
+ghost use Rattle.seq_core.specs.Settled.{groups_in, settled_rows};
+ghost use Rattle.seq_finish.specs.Entered.{MayStop};
 ghost use Rattle.seq_finish.specs.Outcomes.{AreEntered, IsRightOutcome};
 
 use crate::places::{bounds_of, index_of};
@@ -50,8 +51,8 @@ pub fn finish(
     missed: Option<Group>,
 ) -> Result<Outcome, AllocError>
     requires sound { IsSound (problem_of inst.now) limit (rows_from rows.items) }
-    requires root { is_end (problem_of inst.now) (all_classes (problem_of inst.now)) ≡ false → is_entered (entered_in rows.items) (all_classes (problem_of inst.now)) ≡ true }
-    requires stopped { MayStop (problem_of inst.now) limit (entered_in rows.items) missed }
+    requires root { is_end (problem_of inst.now) (all_classes (problem_of inst.now)) ≡ false → is_entered (groups_in rows.items) (all_classes (problem_of inst.now)) ≡ true }
+    requires stopped { MayStop (problem_of inst.now) limit (groups_in rows.items) missed }
     ensures right { IfOk result (IsRightOutcome (problem_of inst.now) limit) }
     ensures rows { IfOk result (λ o. o.rows.items ≡ settled_rows (problem_of inst.now) rows.items) }
     ensures missed { IfOk result (λ o. o.verdict ≡ Verdict.Bounded → o.missed ≡ missed) }

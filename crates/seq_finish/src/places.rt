@@ -7,7 +7,7 @@ ghost use Rattle.seq_core.specs.RowsOf.{row_of as row_from, rows_of as rows_from
 ghost use Rattle.seq_inst.specs.Members.{members};
 ghost use Rattle.seq_inst.specs.Instances.{problem_of};
 ghost use Rattle.seq_core.specs.Tables.{numbered};
-ghost use Rattle.seq_finish.specs.Entered.{entered_in};
+ghost use Rattle.seq_core.specs.Settled.{groups_in};
 ghost use Rattle.seq_finish.specs.Outcomes.{IsSettled};
 
 use seq_core::Places;
@@ -23,7 +23,7 @@ pub(crate) struct Bounds {
 
 /// The places of the rows' groups.
 pub(crate) fn index_of(alloc: Global, rows: &[Row]) -> Result<Places, AllocError>
-    requires distinct { AreDistinct (entered_in rows.now) }
+    requires distinct { AreDistinct (groups_in rows.now) }
     requires few { length rows.now < 2 ^ 32 }
     ensures { IfOk result (λ m. m.placed ≡ numbered 0 rows.now) }
 {
@@ -48,8 +48,8 @@ fn row_at(rows: &[Row], places: &Places, group: &Group) -> Option<Row>
 /// The value of the group over the entered groups: none where it was not entered.
 pub(crate) fn value_of(inst: &Instance, rows: &[Row], places: &Places, group: &Group) -> Option<u64>
     requires placed { places.now.placed ≡ numbered 0 rows.now }
-    requires settled { All (IsSettled (problem_of inst.now) (entered_in rows.now)) rows.now }
-    ensures { result ≡ val (problem_of inst.now) (entered_in rows.now) (members group.now) }
+    requires settled { All (IsSettled (problem_of inst.now) (groups_in rows.now)) rows.now }
+    ensures { result ≡ val (problem_of inst.now) (groups_in rows.now) (members group.now) }
 {
     if is_leaf(inst, group) {
         return Some(0);
@@ -63,10 +63,10 @@ pub(crate) fn value_of(inst: &Instance, rows: &[Row], places: &Places, group: &G
 /// The low and the value of a group that has a value.
 pub(crate) fn bounds_of(inst: &Instance, rows: &[Row], places: &Places, group: &Group) -> Bounds
     requires placed { places.now.placed ≡ numbered 0 rows.now }
-    requires settled { All (IsSettled (problem_of inst.now) (entered_in rows.now)) rows.now }
-    requires valued { IsSome (val (problem_of inst.now) (entered_in rows.now) (members group.now)) }
-    ensures low { result.low ≡ low (problem_of inst.now) (entered_in rows.now) (members group.now) }
-    ensures cost { val (problem_of inst.now) (entered_in rows.now) (members group.now) ≡ Some result.cost }
+    requires settled { All (IsSettled (problem_of inst.now) (groups_in rows.now)) rows.now }
+    requires valued { IsSome (val (problem_of inst.now) (groups_in rows.now) (members group.now)) }
+    ensures low { result.low ≡ low (problem_of inst.now) (groups_in rows.now) (members group.now) }
+    ensures cost { val (problem_of inst.now) (groups_in rows.now) (members group.now) ≡ Some result.cost }
 {
     if is_leaf(inst, group) {
         return Bounds { low: 0, cost: 0 };

@@ -9,7 +9,7 @@ ghost use Rattle.seq_inst.specs.Members.{members};
 ghost use Rattle.seq_inst.specs.Instances.{problem_of};
 ghost use Rattle.seq_inst.specs.Trees.{tree_of};
 ghost use Rattle.seq_core.specs.Tables.{numbered};
-ghost use Rattle.seq_finish.specs.Entered.{entered_in};
+ghost use Rattle.seq_core.specs.Settled.{groups_in};
 ghost use Rattle.seq_finish.specs.Outcomes.{IsSettled};
 
 use crate::places::value_of;
@@ -32,11 +32,11 @@ fn reaches(
     value: u64,
 ) -> bool
     requires placed { places.now.placed ≡ numbered 0 rows.now }
-    requires settled { All (IsSettled (problem_of inst.now) (entered_in rows.now)) rows.now }
+    requires settled { All (IsSettled (problem_of inst.now) (groups_in rows.now)) rows.now }
     requires within { IsWithin (problem_of inst.now) (members group.now) }
     requires there { test < vec_len inst.now.costs }
     requires weight { weight ≡ weight_sum (problem_of inst.now) (members group.now) }
-    ensures { result ≡ is_value (step_value (problem_of inst.now) (val (problem_of inst.now) (entered_in rows.now)) (members group.now) test) (Some value) }
+    ensures { result ≡ is_value (step_value (problem_of inst.now) (val (problem_of inst.now) (groups_in rows.now)) (members group.now) test) (Some value) }
 {
     let pass_part = part(inst, group, test, Answer::Pass);
     let fail_part = part(inst, group, test, Answer::Fail);
@@ -54,12 +54,12 @@ fn reaches(
 /// The lowest test that reaches the group's value, where greedy costs more.
 fn value_test(inst: &Instance, rows: &[Row], places: &Places, group: &Group, value: u64) -> u32
     requires placed { places.now.placed ≡ numbered 0 rows.now }
-    requires settled { All (IsSettled (problem_of inst.now) (entered_in rows.now)) rows.now }
+    requires settled { All (IsSettled (problem_of inst.now) (groups_in rows.now)) rows.now }
     requires within { IsWithin (problem_of inst.now) (members group.now) }
-    requires value { val (problem_of inst.now) (entered_in rows.now) (members group.now) ≡ Some value }
+    requires value { val (problem_of inst.now) (groups_in rows.now) (members group.now) ≡ Some value }
     requires more { is_end (problem_of inst.now) (members group.now) ≡ false }
     requires dear { cost_of_greedy (problem_of inst.now) (members group.now) ≢ value }
-    ensures { result ≡ lowest_test (problem_of inst.now) (entered_in rows.now) (members group.now) }
+    ensures { result ≡ lowest_test (problem_of inst.now) (groups_in rows.now) (members group.now) }
 {
     let weight = weight_of(inst, group);
     let tests = inst.costs.len() as u32;
@@ -81,10 +81,10 @@ pub(crate) fn strategy_of(
     group: &Group,
 ) -> Result<Strategy, AllocError>
     requires placed { places.now.placed ≡ numbered 0 rows.now }
-    requires settled { All (IsSettled (problem_of inst.now) (entered_in rows.now)) rows.now }
+    requires settled { All (IsSettled (problem_of inst.now) (groups_in rows.now)) rows.now }
     requires within { IsWithin (problem_of inst.now) (members group.now) }
-    requires valued { IsSome (val (problem_of inst.now) (entered_in rows.now) (members group.now)) }
-    ensures { IfOk result (λ s. tree_of s ≡ strat (problem_of inst.now) (entered_in rows.now) (members group.now)) }
+    requires valued { IsSome (val (problem_of inst.now) (groups_in rows.now) (members group.now)) }
+    ensures { IfOk result (λ s. tree_of s ≡ strat (problem_of inst.now) (groups_in rows.now) (members group.now)) }
 {
     if is_leaf(inst, group) {
         return Ok(Strategy::Leaf);

@@ -18,7 +18,8 @@ use Rattle.seq_inst.specs.Members.{members}
 use Rattle.seq_inst.specs.Instances.{problem_of}
 use Rattle.seq_core.specs.RowsOf.{row_of as row_from, rows_of as rows_from}
 use Rattle.seq_core.specs.Mapping.{Placed}
-use Rattle.seq_finish.specs.Entered.{entered_in, IsMissed, MayStop}
+use Rattle.seq_core.specs.Settled.{groups_in}
+use Rattle.seq_finish.specs.Entered.{IsMissed, MayStop}
 use Rattle.seq_finish.proofs.OutcomeLaws.{row-among, row-entered, within-all}
 use Rattle.seq_solo.specs.Known.{IsKnown, no_row, row_at, group_at, Narrows, IsClosedAt}
 use Rattle.seq_solo.specs.Steps.{IsNew}
@@ -140,14 +141,14 @@ nothing-begins p rows e none = record {
 
 -- ---- what the making of an outcome asks ----
 
-pub root-entered : (p : Problem) (rows : List Row) → BeginsWithAll p rows → is_end p (all_classes p) ≡ false → is_entered (entered_in rows) (all_classes p) ≡ true
-root-entered p rows b more = let some = b.some more in subst (λ g. is_entered (entered_in rows) g ≡ true) (b.first more) (row-entered rows 0 no_row (omega arith))
+pub root-entered : (p : Problem) (rows : List Row) → BeginsWithAll p rows → is_end p (all_classes p) ≡ false → is_entered (groups_in rows) (all_classes p) ≡ true
+root-entered p rows b more = let some = b.some more in subst (λ g. is_entered (groups_in rows) g ≡ true) (b.first more) (row-entered rows 0 no_row (omega arith))
 
-long-entered : (rows : List Row) → length (entered_in rows) ≡ length rows
+long-entered : (rows : List Row) → length (groups_in rows) ≡ length rows
 long-entered [] = refl
 long-entered (r ∷ rest) = ap suc (long-entered rest)
 
-pub may-stop : (p : Problem) (limit : ℕ) (rows : List Row) (missed : Option Group) → HasEnded p limit rows missed → MayStop p limit (entered_in rows) missed
+pub may-stop : (p : Problem) (limit : ℕ) (rows : List Row) (missed : Option Group) → HasEnded p limit rows missed → MayStop p limit (groups_in rows) missed
 may-stop p limit rows None h = inl h.enough
 may-stop p limit rows (Some g) h = inr (record { many = long-entered rows ∙ h.many; missed_is = (h.real, h.absent) })
 

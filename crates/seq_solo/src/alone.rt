@@ -7,7 +7,8 @@ ghost use Rattle.seq_theory.specs.Graph.{is_entered};
 ghost use Rattle.seq_theory.specs.Rows.{IsSound};
 ghost use Rattle.seq_inst.specs.Instances.{problem_of};
 ghost use Rattle.seq_core.specs.RowsOf.{rows_of as rows_from};
-ghost use Rattle.seq_finish.specs.Entered.{entered_in, MayStop};
+ghost use Rattle.seq_core.specs.Settled.{groups_in};
+ghost use Rattle.seq_finish.specs.Entered.{MayStop};
 ghost use Rattle.seq_solo.specs.Found.{BeginsWithAll, HasEnded};
 
 use crate::events::enter;
@@ -24,9 +25,9 @@ pub fn solve_alone(alloc: Global, inst: &Instance, limit: u32) -> Result<Found, 
     requires few { limit ≤ 32768 }
     ensures sound { IfOk result (λ f. IsSound (problem_of inst.now) limit (rows_from f.rows.items)) }
     ensures first { IfOk result (λ f. BeginsWithAll (problem_of inst.now) f.rows.items) }
-    ensures root { IfOk result (λ f. is_end (problem_of inst.now) (all_classes (problem_of inst.now)) ≡ false → is_entered (entered_in f.rows.items) (all_classes (problem_of inst.now)) ≡ true) }
+    ensures root { IfOk result (λ f. is_end (problem_of inst.now) (all_classes (problem_of inst.now)) ≡ false → is_entered (groups_in f.rows.items) (all_classes (problem_of inst.now)) ≡ true) }
     ensures ended { IfOk result (λ f. HasEnded (problem_of inst.now) limit f.rows.items f.missed) }
-    ensures stopped { IfOk result (λ f. MayStop (problem_of inst.now) limit (entered_in f.rows.items) f.missed) }
+    ensures stopped { IfOk result (λ f. MayStop (problem_of inst.now) limit (groups_in f.rows.items) f.missed) }
 {
     let all = root(inst);
     let mut rows = Vec::new(alloc);

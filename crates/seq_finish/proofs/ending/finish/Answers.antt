@@ -9,22 +9,19 @@ use Rattle.seq_inst.specs.Instances.{problem_of}
 use Rattle.seq_inst.specs.Trees.{tree_of}
 use Rattle.seq_inst.proofs.RootLaws.{within-all}
 use Rattle.seq_core.specs.Tables.{numbered}
-use Rattle.seq_finish.specs.Entered.{entered_in, settled_rows}
+use Rattle.seq_core.specs.Settled.{groups_in, AreGroups, settled_rows}
 use Rattle.seq_finish.specs.Outcomes.{IsSettled}
-use Rattle.seq_finish.proofs.OutcomeLaws.{rows-within, rows-more, settled-all, settled-entered, are-entered, root-valued, outcome-right, outcome-shape}
+use Rattle.seq_finish.proofs.OutcomeLaws.{rows-groups, settled-all, settled-entered, are-entered, root-valued, outcome-right, outcome-shape}
 use Rattle.seq_finish.proofs.ending.finish.Goals as goal
 
-pub settle-requires-clause-within : goal.settle-requires-clause-within
-settle-requires-clause-within c = subst (All (λ (r : Row). IsWithin (problem_of c.args.inst.now) (members r.group))) (sym c.as_slice.ensures.value) (rows-within (problem_of c.args.inst.now) c.args.limit c.args.rows.items c.requires.sound)
-
-pub settle-requires-clause-more : goal.settle-requires-clause-more
-settle-requires-clause-more c = subst (All (λ (r : Row). is_end (problem_of c.args.inst.now) (members r.group) ≡ false)) (sym c.as_slice.ensures.value) (rows-more (problem_of c.args.inst.now) c.args.limit c.args.rows.items c.requires.sound)
+pub settle-requires : goal.settle-requires
+settle-requires c = subst (AreGroups (problem_of c.args.inst.now)) (sym c.as_slice.ensures.value) (rows-groups (problem_of c.args.inst.now) c.args.limit c.args.rows.items c.requires.sound)
 
 pub index_of-requires-clause-distinct : goal.index_of-requires-clause-distinct
 index_of-requires-clause-distinct c =
     let p = problem_of c.args.inst.now in
     let same : c.as_slice-2.result.now ≡ settled_rows p c.args.rows.items = c.as_slice-2.ensures.value ∙ c.in_ok-rows.ensures ∙ ap (settled_rows p) c.as_slice.ensures.value in
-    subst AreDistinct (sym (ap entered_in same ∙ settled-entered p c.args.rows.items)) c.requires.sound.distinct
+    subst AreDistinct (sym (ap groups_in same ∙ settled-entered p c.args.rows.items)) c.requires.sound.distinct
 
 pub index_of-requires-clause-few : goal.index_of-requires-clause-few
 index_of-requires-clause-few c =
@@ -45,7 +42,7 @@ pub strategy_of-requires-clause-settled : goal.strategy_of-requires-clause-settl
 strategy_of-requires-clause-settled c =
     let p = problem_of c.args.inst.now in
     let same : c.as_slice-3.result.now ≡ settled_rows p c.args.rows.items = c.as_slice-3.ensures.value ∙ c.in_ok-rows.ensures ∙ ap (settled_rows p) c.as_slice.ensures.value in
-    subst (λ l. All (IsSettled p (entered_in l)) l) (sym same) (settled-all p c.args.limit c.args.rows.items c.requires.sound)
+    subst (λ l. All (IsSettled p (groups_in l)) l) (sym same) (settled-all p c.args.limit c.args.rows.items c.requires.sound)
 
 pub strategy_of-requires-clause-within : goal.strategy_of-requires-clause-within
 strategy_of-requires-clause-within c = within-all (problem_of c.args.inst.now) _ c.root-all.ensures
@@ -54,33 +51,33 @@ pub strategy_of-requires-clause-valued : goal.strategy_of-requires-clause-valued
 strategy_of-requires-clause-valued c =
     let p = problem_of c.args.inst.now in
     let same : c.as_slice-3.result.now ≡ settled_rows p c.args.rows.items = c.as_slice-3.ensures.value ∙ c.in_ok-rows.ensures ∙ ap (settled_rows p) c.as_slice.ensures.value in
-    subst (λ g. IsSome (val p g (members c.root-all.result))) (sym (ap entered_in same ∙ settled-entered p c.args.rows.items))
-    (subst (λ g. IsSome (val p (entered_in c.args.rows.items) g)) (sym c.root-all.ensures) (root-valued p (entered_in c.args.rows.items) c.requires.root))
+    subst (λ g. IsSome (val p g (members c.root-all.result))) (sym (ap groups_in same ∙ settled-entered p c.args.rows.items))
+    (subst (λ g. IsSome (val p (groups_in c.args.rows.items) g)) (sym c.root-all.ensures) (root-valued p (groups_in c.args.rows.items) c.requires.root))
 
 pub bounds_of-bounds-requires-clause-settled : goal.bounds_of-bounds-requires-clause-settled
 bounds_of-bounds-requires-clause-settled c =
     let p = problem_of c.args.inst.now in
     let same : c.as_slice-4.result.now ≡ settled_rows p c.args.rows.items = c.as_slice-4.ensures.value ∙ c.in_ok-rows.ensures ∙ ap (settled_rows p) c.as_slice.ensures.value in
-    subst (λ l. All (IsSettled p (entered_in l)) l) (sym same) (settled-all p c.args.limit c.args.rows.items c.requires.sound)
+    subst (λ l. All (IsSettled p (groups_in l)) l) (sym same) (settled-all p c.args.limit c.args.rows.items c.requires.sound)
 
 pub bounds_of-bounds-requires-clause-valued : goal.bounds_of-bounds-requires-clause-valued
 bounds_of-bounds-requires-clause-valued c =
     let p = problem_of c.args.inst.now in
     let same : c.as_slice-4.result.now ≡ settled_rows p c.args.rows.items = c.as_slice-4.ensures.value ∙ c.in_ok-rows.ensures ∙ ap (settled_rows p) c.as_slice.ensures.value in
-    subst (λ g. IsSome (val p g (members c.root-all.result))) (sym (ap entered_in same ∙ settled-entered p c.args.rows.items))
-    (subst (λ g. IsSome (val p (entered_in c.args.rows.items) g)) (sym c.root-all.ensures) (root-valued p (entered_in c.args.rows.items) c.requires.root))
+    subst (λ g. IsSome (val p g (members c.root-all.result))) (sym (ap groups_in same ∙ settled-entered p c.args.rows.items))
+    (subst (λ g. IsSome (val p (groups_in c.args.rows.items) g)) (sym c.root-all.ensures) (root-valued p (groups_in c.args.rows.items) c.requires.root))
 
 pub returns-clause-right : goal.returns-clause-right
 returns-clause-right c =
     let p = problem_of c.args.inst.now in
     let rows = c.args.rows.items in
     let items : c.in_ok-rows.rows.items ≡ settled_rows p rows = c.in_ok-rows.ensures ∙ ap (settled_rows p) c.as_slice.ensures.value in
-    let same2 : entered_in c.as_slice-3.result.now ≡ entered_in rows = ap entered_in (c.as_slice-3.ensures.value ∙ items) ∙ settled-entered p rows in
-    let same3 : entered_in c.as_slice-4.result.now ≡ entered_in rows = ap entered_in (c.as_slice-4.ensures.value ∙ items) ∙ settled-entered p rows in
+    let same2 : groups_in c.as_slice-3.result.now ≡ groups_in rows = ap groups_in (c.as_slice-3.ensures.value ∙ items) ∙ settled-entered p rows in
+    let same3 : groups_in c.as_slice-4.result.now ≡ groups_in rows = ap groups_in (c.as_slice-4.ensures.value ∙ items) ∙ settled-entered p rows in
     outcome-right p c.args.limit rows c.args.missed _ c.requires.sound c.requires.root c.requires.stopped items
-    (c.in_ok-strategy.ensures ∙ ap (λ g. strat p g (members c.root-all.result)) same2 ∙ ap (strat p (entered_in rows)) c.root-all.ensures)
-    (sym (ap (λ g. val p g (members c.root-all.result)) same3 ∙ ap (val p (entered_in rows)) c.root-all.ensures) ∙ c.bounds_of-bounds.ensures.cost)
-    (c.bounds_of-bounds.ensures.low ∙ ap (λ g. low p g (members c.root-all.result)) same3 ∙ ap (low p (entered_in rows)) c.root-all.ensures)
+    (c.in_ok-strategy.ensures ∙ ap (λ g. strat p g (members c.root-all.result)) same2 ∙ ap (strat p (groups_in rows)) c.root-all.ensures)
+    (sym (ap (λ g. val p g (members c.root-all.result)) same3 ∙ ap (val p (groups_in rows)) c.root-all.ensures) ∙ c.bounds_of-bounds.ensures.cost)
+    (c.bounds_of-bounds.ensures.low ∙ ap (λ g. low p g (members c.root-all.result)) same3 ∙ ap (low p (groups_in rows)) c.root-all.ensures)
     refl c.verdict_of-verdict.ensures.0 c.verdict_of-verdict.ensures.1 c.still_missed.ensures.optimal c.still_missed.ensures.bounded
 
 pub returns-clause-splitting : goal.returns-clause-splitting
@@ -88,21 +85,21 @@ returns-clause-splitting c =
     let p = problem_of c.args.inst.now in
     let rows = c.args.rows.items in
     let items : c.in_ok-rows.rows.items ≡ settled_rows p rows = c.in_ok-rows.ensures ∙ ap (settled_rows p) c.as_slice.ensures.value in
-    let same2 : entered_in c.as_slice-3.result.now ≡ entered_in rows = ap entered_in (c.as_slice-3.ensures.value ∙ items) ∙ settled-entered p rows in
-    (outcome-shape c.args.inst.now (entered_in rows) (tree_of c.in_ok-strategy.strategy) c.requires.root (c.in_ok-strategy.ensures ∙ ap (λ g. strat p g (members c.root-all.result)) same2 ∙ ap (strat p (entered_in rows)) c.root-all.ensures)).splitting
+    let same2 : groups_in c.as_slice-3.result.now ≡ groups_in rows = ap groups_in (c.as_slice-3.ensures.value ∙ items) ∙ settled-entered p rows in
+    (outcome-shape c.args.inst.now (groups_in rows) (tree_of c.in_ok-strategy.strategy) c.requires.root (c.in_ok-strategy.ensures ∙ ap (λ g. strat p g (members c.root-all.result)) same2 ∙ ap (strat p (groups_in rows)) c.root-all.ensures)).splitting
 
 pub returns-clause-leaves : goal.returns-clause-leaves
 returns-clause-leaves c =
     let p = problem_of c.args.inst.now in
     let rows = c.args.rows.items in
     let items : c.in_ok-rows.rows.items ≡ settled_rows p rows = c.in_ok-rows.ensures ∙ ap (settled_rows p) c.as_slice.ensures.value in
-    let same2 : entered_in c.as_slice-3.result.now ≡ entered_in rows = ap entered_in (c.as_slice-3.ensures.value ∙ items) ∙ settled-entered p rows in
-    (outcome-shape c.args.inst.now (entered_in rows) (tree_of c.in_ok-strategy.strategy) c.requires.root (c.in_ok-strategy.ensures ∙ ap (λ g. strat p g (members c.root-all.result)) same2 ∙ ap (strat p (entered_in rows)) c.root-all.ensures)).leaves
+    let same2 : groups_in c.as_slice-3.result.now ≡ groups_in rows = ap groups_in (c.as_slice-3.ensures.value ∙ items) ∙ settled-entered p rows in
+    (outcome-shape c.args.inst.now (groups_in rows) (tree_of c.in_ok-strategy.strategy) c.requires.root (c.in_ok-strategy.ensures ∙ ap (λ g. strat p g (members c.root-all.result)) same2 ∙ ap (strat p (groups_in rows)) c.root-all.ensures)).leaves
 
 pub returns-clause-short : goal.returns-clause-short
 returns-clause-short c =
     let p = problem_of c.args.inst.now in
     let rows = c.args.rows.items in
     let items : c.in_ok-rows.rows.items ≡ settled_rows p rows = c.in_ok-rows.ensures ∙ ap (settled_rows p) c.as_slice.ensures.value in
-    let same2 : entered_in c.as_slice-3.result.now ≡ entered_in rows = ap entered_in (c.as_slice-3.ensures.value ∙ items) ∙ settled-entered p rows in
-    (outcome-shape c.args.inst.now (entered_in rows) (tree_of c.in_ok-strategy.strategy) c.requires.root (c.in_ok-strategy.ensures ∙ ap (λ g. strat p g (members c.root-all.result)) same2 ∙ ap (strat p (entered_in rows)) c.root-all.ensures)).short
+    let same2 : groups_in c.as_slice-3.result.now ≡ groups_in rows = ap groups_in (c.as_slice-3.ensures.value ∙ items) ∙ settled-entered p rows in
+    (outcome-shape c.args.inst.now (groups_in rows) (tree_of c.in_ok-strategy.strategy) c.requires.root (c.in_ok-strategy.ensures ∙ ap (λ g. strat p g (members c.root-all.result)) same2 ∙ ap (strat p (groups_in rows)) c.root-all.ensures)).short

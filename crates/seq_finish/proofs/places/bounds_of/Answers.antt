@@ -5,15 +5,15 @@ use Rattle.seq_theory.proofs.LowLaws.{low-end}
 use Rattle.seq_theory.proofs.ValLaws.{val-end}
 use Rattle.seq_inst.specs.Members.{members}
 use Rattle.seq_inst.specs.Instances.{problem_of}
-use Rattle.seq_finish.specs.Entered.{entered_in}
+use Rattle.seq_core.specs.Settled.{groups_in}
 use Rattle.seq_finish.proofs.RowLaws.{found-says, none-value}
 use Rattle.seq_finish.proofs.places.bounds_of.Goals as goal
 
 pub returns-then-is_leaf-clause-low : goal.returns-then-is_leaf-clause-low
-returns-then-is_leaf-clause-low c = sym (low-end (problem_of c.args.inst.now) (entered_in c.args.rows.now) (members c.args.group.now) (sym c.is_leaf.ensures ∙ c.if-is_leaf.true))
+returns-then-is_leaf-clause-low c = sym (low-end (problem_of c.args.inst.now) (groups_in c.args.rows.now) (members c.args.group.now) (sym c.is_leaf.ensures ∙ c.if-is_leaf.true))
 
 pub returns-then-is_leaf-clause-cost : goal.returns-then-is_leaf-clause-cost
-returns-then-is_leaf-clause-cost c = val-end (problem_of c.args.inst.now) (entered_in c.args.rows.now) (members c.args.group.now) (sym c.is_leaf.ensures ∙ c.if-is_leaf.true)
+returns-then-is_leaf-clause-cost c = val-end (problem_of c.args.inst.now) (groups_in c.args.rows.now) (members c.args.group.now) (sym c.is_leaf.ensures ∙ c.if-is_leaf.true)
 
 pub unreachable-requires : goal.unreachable-requires
 unreachable-requires c =

@@ -6,7 +6,7 @@ use Rattle.seq_theory.specs.Graph.{val, is_value, step_value}
 use Rattle.seq_theory.proofs.PartsRecursion.{splitting-splits, splitting-there}
 use Rattle.seq_inst.specs.Members.{members}
 use Rattle.seq_inst.specs.Instances.{problem_of}
-use Rattle.seq_finish.specs.Entered.{entered_in}
+use Rattle.seq_core.specs.Settled.{groups_in}
 use Rattle.seq_finish.proofs.FirstWhere.{first_where-at}
 use Rattle.seq_finish.proofs.StratLaws.{reaching, value_test-is}
 use Rattle.seq_finish.proofs.strategy.value_test.Goals as goal
@@ -14,7 +14,7 @@ use Rattle.seq_finish.proofs.strategy.value_test.Goals as goal
 pub returns-then-reaches : goal.returns-then-reaches
 returns-then-reaches c =
     let p = problem_of c.args.inst.now in
-    let entered = entered_in c.args.rows.now in
+    let entered = groups_in c.args.rows.now in
     let xs = members c.args.group.now in
     let n = c.len-tests.ensures ∙ c.args.inst.now.costs.ok.0 in
     let lt = c.loop-test-test.true in
@@ -27,7 +27,7 @@ pub unreachable-requires : goal.unreachable-requires
 unreachable-requires c =
     let p = problem_of c.args.inst.now in
     let xs = members c.args.group.now in
-    let r = reaching p (entered_in c.args.rows.now) xs c.args.value c.requires.more c.requires.value c.requires.dear in
+    let r = reaching p (groups_in c.args.rows.now) xs c.args.value c.requires.more c.requires.value c.requires.dear in
     let n = c.len-tests.ensures ∙ c.args.inst.now.costs.ok.0 in
     let there = splitting-there p xs r.0 r.1 in
     let past = c.loop-test-test.false in

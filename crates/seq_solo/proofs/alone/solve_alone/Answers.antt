@@ -1,7 +1,7 @@
 use Rattle.std.proofs.Common.{◌≡◌, ◌≤◌, ◌∙◌, sym, ap, subst, arith, None}
 use Rattle.std.specs.Prelude.{true, false}
 use Rattle.seq_theory.specs.Graph.{is_entered}
-use Rattle.seq_finish.specs.Entered.{entered_in}
+use Rattle.seq_core.specs.Settled.{groups_in}
 use Rattle.seq_theory.specs.Problem.{all_classes, is_end}
 use Rattle.seq_inst.specs.Members.{members}
 use Rattle.seq_inst.specs.Instances.{problem_of}
@@ -36,5 +36,5 @@ pub returns-in-Some-clause-root : goal.returns-in-Some-clause-root
 returns-in-Some-clause-root c = λ more.
     let p = problem_of c.args.inst.now in
     let same = stopped-same p c.args.limit c.turns.rows.items c.turn.new.rows.items c.turn.new.places.placed c.in_ok-missed.field-0 c.in-Some.missed c.in_ok-missed.ensures.turned c.in-Some.is in
-    subst (λ l. is_entered (entered_in l) (all_classes p) ≡ true) (sym same)
+    subst (λ l. is_entered (groups_in l) (all_classes p) ≡ true) (sym same)
     (root-entered p c.turns.rows.items (walking-begins p c.args.limit c.turns.rows.items c.turns.places.placed c.turns.places.room more c.turns.invariant) more)
