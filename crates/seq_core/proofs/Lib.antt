@@ -3,3 +3,4 @@ pub mod MappingLaws
 pub mod TableLaws
 pub mod ChangeLaws
 pub mod SumLaws
+pub mod CoreLaws

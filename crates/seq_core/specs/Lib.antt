@@ -7,3 +7,4 @@ pub mod Changes
 pub mod Tables
 pub mod Sums
 pub mod Allowed
+pub mod Events

@@ -5,11 +5,15 @@
 //! `lows` and `vals` work out the best bounds that a set of entered groups gives.
 #![tactic(auto)]
 
+mod event;
 mod kept;
+mod machine;
 mod order;
 mod places;
 mod slots;
 mod table;
 
+pub use event::{Event, Illegal};
 pub use kept::Kept;
+pub use machine::Core;
 pub use places::Places;

@@ -77,6 +77,20 @@ impl Entered {
         self.rows.as_slice()
     }
 
+    /// How many rows there are.
+    pub(crate) fn len(&self) -> u32
+        ensures { result ≡ length self.now.rows }
+    {
+        self.rows.len() as u32
+    }
+
+    /// How many rows there may be.
+    pub(crate) fn room(&self) -> u32
+        ensures { result ≡ self.now.room }
+    {
+        self.index.room()
+    }
+
     /// The place of the group, if it was entered.
     pub(crate) fn place_of(&self, group: &Group) -> Option<u32>
         ensures { result ≡ place_in (rows_of self.now.rows) (members group.now) }
