@@ -8,3 +8,6 @@ pub mod Tables
 pub mod Sums
 pub mod Allowed
 pub mod Events
+pub mod Settled
+pub mod Laws
+pub mod Examples
