@@ -47,7 +47,7 @@ capped-rows (r ∷ rest) zero to = refl
 capped-rows (r ∷ rest) (suc k) to = ap (λ (l : List TheoryRow). row_of r ∷ l) (capped-rows rest k to)
 
 -- the rows fit after the change where each row's change fits
-fit-change : (p : Problem) (rows : List Row) (k : ℕ) (f : Row → Row) → ((r : Row) → IsFit p (row_of r) → IsFit p (row_of (f r))) → AreFit p (rows_of rows) → AreFit p (rows_of (change_row rows k f))
+pub fit-change : (p : Problem) (rows : List Row) (k : ℕ) (f : Row → Row) → ((r : Row) → IsFit p (row_of r) → IsFit p (row_of (f r))) → AreFit p (rows_of rows) → AreFit p (rows_of (change_row rows k f))
 fit-change p [] k f each a x i = absurd i
 fit-change p (r ∷ rest) zero f each a x (inl e) = subst (IsFit p) e (each r (a (row_of r) (inl refl)))
 fit-change p (r ∷ rest) zero f each a x (inr i) = a x (inr i)

@@ -3,3 +3,9 @@ pub mod MappingLaws
 pub mod TableLaws
 pub mod ChangeLaws
 pub mod SumLaws
+pub mod CoreLaws
+pub mod SettleLaws
+pub mod SettleSteps
+pub mod EnterAll
+pub mod EventLaws
+pub mod ExampleLaws

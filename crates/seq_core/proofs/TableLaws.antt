@@ -7,7 +7,7 @@ use Rattle.std.proofs.lemmas.Bool.{cases_Bool, false≢true}
 use Rattle.seq_theory.specs.Problem.{Problem, IsWithin, is_end}
 use Rattle.seq_theory.specs.Bound.{bound}
 use Rattle.seq_theory.specs.Graph.{same_group, is_entered}
-use Rattle.seq_theory.specs.Rows.{groups_of, IsRow, row_of as theory_row, low_or, up_or, known_low, known_up, no_value} 
+use Rattle.seq_theory.specs.Rows.{groups_of, IsRow, row_of as theory_row, low_or, up_or, known_low, known_up, no_value}
 use Rattle.seq_theory.specs.Rows.{Row as TheoryRow}
 use Rattle.seq_theory.proofs.RowLaws.{same_group-true, same_group-refl}
 use Rattle.seq_inst.specs.declared.group.Group.{Group}

@@ -7,3 +7,7 @@ pub mod Changes
 pub mod Tables
 pub mod Sums
 pub mod Allowed
+pub mod Events
+pub mod Settled
+pub mod Laws
+pub mod Examples

@@ -5,11 +5,21 @@
 //! `lows` and `vals` work out the best bounds that a set of entered groups gives.
 #![tactic(auto)]
 
+mod event;
 mod kept;
+mod laws;
+mod machine;
 mod order;
 mod places;
+mod settling;
 mod slots;
 mod table;
+#[cfg(test)]
+mod tests;
 
+pub use event::{Event, Illegal};
 pub use kept::Kept;
+pub use laws::{changes_keep, entering_helps, sound_rows_settle};
+pub use machine::Core;
 pub use places::Places;
+pub use settling::{lows, settle, vals};

@@ -49,6 +49,13 @@ impl Places {
         })
     }
 
+    /// How many groups there may be.
+    pub fn room(&self) -> u32
+        ensures { result ≡ self.now.room }
+    {
+        self.room
+    }
+
     /// The place of the group, or None where the group is not there. It takes as many comparisons as
     /// the number of groups has bits.
     pub fn find(&self, group: &Group) -> Option<u32>

@@ -40,12 +40,12 @@ impl Model for Entered {
     ghost view = { λ t. record { room = t.index.room; rows = t.rows.items; kept = t.kept.items } };
 
     ghost invariant = { λ t. record {
-        numbers : t.index.placed ≡ numbered 0 t.rows.items;
-        as_many : length t.kept.items ≡ length t.rows.items;
-        few : length t.rows.items ≤ t.index.room;
-        small : t.index.room < 2 ^ 32;
-        rows_room : t.index.room ≤ vec_capacity t.rows;
-        kept_room : t.index.room ≤ vec_capacity t.kept;
+      numbers : t.index.placed ≡ numbered 0 t.rows.items;
+      as_many : length t.kept.items ≡ length t.rows.items;
+      few : length t.rows.items ≤ t.index.room;
+      small : t.index.room < 2 ^ 32;
+      rows_room : t.index.room ≤ vec_capacity t.rows;
+      kept_room : t.index.room ≤ vec_capacity t.kept;
     } };
 }
 
@@ -75,6 +75,30 @@ impl Entered {
         ensures { result.now ≡ self.now.rows }
     {
         self.rows.as_slice()
+    }
+
+    /// The rows, the rest being given up.
+    pub(crate) fn into_rows(self) -> Vec<Row>
+        ensures { result.items ≡ self.rows }
+    {
+        let Entered { rows, kept, index } = self;
+        let _ = kept;
+        let _ = index;
+        rows
+    }
+
+    /// How many rows there are.
+    pub(crate) fn len(&self) -> u32
+        ensures { result ≡ length self.now.rows }
+    {
+        self.rows.len() as u32
+    }
+
+    /// How many rows there may be.
+    pub(crate) fn room(&self) -> u32
+        ensures { result ≡ self.now.room }
+    {
+        self.index.room()
     }
 
     /// The place of the group, if it was entered.
