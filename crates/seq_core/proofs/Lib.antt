@@ -1,0 +1,11 @@
+pub mod OrderLaws
+pub mod MappingLaws
+pub mod TableLaws
+pub mod ChangeLaws
+pub mod SumLaws
+pub mod CoreLaws
+pub mod SettleLaws
+pub mod SettleSteps
+pub mod EnterAll
+pub mod EventLaws
+pub mod ExampleLaws

@@ -1,0 +1,7 @@
+use Rattle.std.proofs.Common.{◌∙◌}
+use Rattle.seq_inst.specs.Instances.{problem_of}
+use Rattle.seq_core.proofs.SettleSteps.{ups-settled}
+use Rattle.seq_core.proofs.settling.vals.Goals as goal
+
+pub returns : goal.returns
+returns c = c.in_ok-ups.ensures ∙ ups-settled (problem_of c.args.inst.now) c.args.rows.now _ (c.rows.ensures ∙ c.in_ok-table.ensures)

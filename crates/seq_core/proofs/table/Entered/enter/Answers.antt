@@ -1,0 +1,70 @@
+use Rattle.std.proofs.Common.{◌≡◌, ◌+◌, ◌∙◌, ◌<◌, ◌≤◌, ◌++◌, ◌∷◌, [], ap, sym, arith, subst, Some, None, length, get_or, rules, length-append}
+use Rattle.seq_inst.specs.declared.outcome.Row.{Row}
+use Rattle.seq_inst.specs.Members.{members}
+use Rattle.seq_inst.specs.Instances.{problem_of}
+use Rattle.seq_core.specs.Mapping.{Mapping, place_of}
+use Rattle.seq_core.specs.RowsOf.{rows_of, place_in, AreFit}
+use Rattle.seq_core.specs.Tables.{Table, IsTableOf, numbered, AreKeptOf}
+use Rattle.seq_core.specs.Changes.{new_row}
+use Rattle.seq_core.proofs.TableLaws.{numbered-place, numbered-more, length-numbered, kept-more, fit-more}
+use Rattle.seq_core.proofs.table.Entered.enter.Goals as goal
+
+pub add-requires-clause-absent : goal.add-requires-clause-absent
+add-requires-clause-absent c =
+    let g = members c.args.group.now in
+    ap (λ l. place_of l g) c.self.invariant.numbers ∙ numbered-place c.self.inside.rows.items g ∙ ap (λ (t : Table). place_in (rows_of t.rows) g) c.self.view_is ∙ c.requires.absent
+
+pub add-requires-clause-room : goal.add-requires-clause-room
+add-requires-clause-room c =
+    let shown : length c.self.inside.rows.items < c.self.inside.index.room = subst (λ (t : Table). length t.rows < t.room) (sym c.self.view_is) c.requires.room in
+    let e = ap length c.self.invariant.numbers in
+    let l = length-numbered 0 c.self.inside.rows.items in
+    omega arith
+
+pub invariant_of-self : goal.invariant_of-self
+invariant_of-self c =
+    let rows = c.self.inside.rows.items in
+    let kept = c.self.inside.kept.items in
+    let g = c.args.group.now in
+    let i = c.self.invariant in
+    let few : length rows < c.self.inside.index.room = subst (λ (t : Table). length t.rows < t.room) (sym c.self.view_is) c.requires.room in
+    let many = i.as_many in
+    let pushed : c.push.new.self.items ≡ rows ++ new_row g ∷ [] = search rules in
+    let kept_pushed : c.push-2.new.self.items ≡ kept ++ c.of-kept.result ∷ [] = search rules in
+    let l1 = ap length pushed ∙ length-append rows (new_row g ∷ []) in
+    let l2 = ap length kept_pushed ∙ length-append kept (c.of-kept.result ∷ []) in
+    let room : c.add.new.self.room ≡ c.self.inside.index.room = ap (λ (m : Mapping). m.room) c.add.ensures in
+    let cap1 = c.push.ensures.capacity in
+    let cap2 = c.push-2.ensures.capacity in
+    let r1 = i.rows_room in
+    let r2 = i.kept_room in
+    let small = i.small in
+    let n = c.self.inside.rows.ok.0 in
+    let place : c.len-place.result ≡ 0 + length rows = omega arith in
+    record {
+      numbers = ap (λ (m : Mapping). m.placed) c.add.ensures ∙ ap (λ l. l ++ record { group = members g; place = c.len-place.result } ∷ []) i.numbers
+          ∙ ap (λ k. numbered 0 rows ++ record { group = members g; place = k } ∷ []) place
+          ∙ sym (ap (numbered 0) pushed ∙ numbered-more 0 rows (new_row g));
+      as_many = omega arith;
+      few = omega arith;
+      small = omega arith;
+      rows_room = omega arith;
+      kept_room = omega arith;
+    }
+
+pub returns-clause-of : goal.returns-clause-of
+returns-clause-of c =
+    let p = problem_of c.args.inst.now in
+    let rows = c.self.inside.rows.items in
+    let kept = c.self.inside.kept.items in
+    let g = c.args.group.now in
+    let i = c.self.invariant in
+    let few : length rows < c.self.inside.index.room = subst (λ (t : Table). length t.rows < t.room) (sym c.self.view_is) c.requires.room in
+    let many = i.as_many in
+    let pushed : c.push.new.self.items ≡ rows ++ new_row g ∷ [] = search rules in
+    let kept_pushed : c.push-2.new.self.items ≡ kept ++ c.of-kept.result ∷ [] = search rules in
+    let of : IsTableOf p (record { room = c.self.inside.index.room; rows = rows; kept = kept }) = subst (IsTableOf p) (sym c.self.view_is) c.requires.of in
+    record {
+      kept = subst (λ l. AreKeptOf p l c.push-2.new.self.items) (sym pushed) (subst (AreKeptOf p (rows ++ new_row g ∷ [])) (sym kept_pushed) (kept-more p rows kept (new_row g) c.of-kept.result of.kept c.of-kept.ensures));
+      fit = subst (λ l. AreFit p (rows_of l)) (sym pushed) (fit-more p rows (new_row g) of.fit (record { within = c.requires.within; goals = c.requires.goals; small = omega arith }));
+    }

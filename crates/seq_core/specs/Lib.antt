@@ -1,0 +1,13 @@
+pub mod GroupOrder
+pub mod Mapping
+pub mod Ordered
+pub mod RowsOf
+pub mod KeptOf
+pub mod Changes
+pub mod Tables
+pub mod Sums
+pub mod Allowed
+pub mod Events
+pub mod Settled
+pub mod Laws
+pub mod Examples

@@ -1,0 +1,25 @@
+//! The core of the search: the entered groups with their bounds, and the events that change them.
+//!
+//! `Places` maps groups to places. `Core` is the list of rows under three events, enter, raise and cap,
+//! each of which it accepts exactly where the rows allow it; so the rows stay sound whatever is played.
+//! `lows` and `vals` work out the best bounds that a set of entered groups gives.
+#![tactic(auto)]
+
+mod event;
+mod kept;
+mod laws;
+mod machine;
+mod order;
+mod places;
+mod settling;
+mod slots;
+mod table;
+#[cfg(test)]
+mod tests;
+
+pub use event::{Event, Illegal};
+pub use kept::Kept;
+pub use laws::{changes_keep, entering_helps, sound_rows_settle};
+pub use machine::Core;
+pub use places::Places;
+pub use settling::{lows, settle, vals};

@@ -1,0 +1,289 @@
+//! The entered groups with their bounds: a row for each, what is kept of it, and the map that finds its
+//! place. From them comes to what a group's low may be raised, and to what its up may be capped: a part
+//! that has a row counts by its row, any other by its bound, and has no up.
+ghost use Rattle.std.specs.Prelude.{◌≡◌, ◌++◌, ◌∷◌, [], ◌<◌, ◌≤◌, false, length, map, IfOk, Option, None, Some, vec_len};
+ghost use Rattle.std.specs.List.{filter_map};
+ghost use Rattle.seq_theory.specs.Problem.{IsWithin, is_end, weight_of as weight_sum, least_of, splitting};
+ghost use Rattle.seq_theory.specs.Bound.{step_sum};
+ghost use Rattle.seq_theory.specs.Graph.{step_value};
+ghost use Rattle.seq_theory.specs.Rows.{known_low as known_low_of, known_up as known_up_of};
+ghost use Rattle.seq_inst.specs.Members.{members};
+ghost use Rattle.seq_inst.specs.Instances.{problem_of};
+ghost use Rattle.seq_huff.specs.Bounds.{greatest_cost};
+ghost use Rattle.seq_core.specs.RowsOf.{rows_of, place_in};
+ghost use Rattle.seq_core.specs.Tables.{IsTableOf};
+ghost use Rattle.seq_core.specs.Changes.{change_row, new_row, raised, capped};
+ghost use Rattle.seq_core.specs.Sums.{capped_value, lesser};
+ghost use Rattle.seq_core.specs.Allowed.{IsMostLow, IsLeastUp};
+
+use crate::kept::Kept;
+use crate::places::Places;
+use seq_huff::{Scratch, bound};
+use seq_inst::{Answer, Group, Instance, Row, is_leaf, part, splits};
+use std::alloc::{AllocError, Global};
+use std::marker::Model;
+
+/// The entered groups, in the order of entering.
+#[derive(Drop)]
+pub(crate) struct Entered {
+    rows: Vec<Row>,
+    kept: Vec<Kept>,
+    index: Places,
+}
+
+impl Model for Entered {
+    ghost use Rattle.std.specs.Prelude.{◌≡◌, ◌^◌, ◌<◌, ◌≤◌, length, vec_capacity};
+    ghost use Rattle.seq_core.specs.Tables.{Table, numbered};
+
+    ghost Value = { Table };
+
+    ghost view = { λ t. record { room = t.index.room; rows = t.rows.items; kept = t.kept.items } };
+
+    ghost invariant = { λ t. record {
+      numbers : t.index.placed ≡ numbered 0 t.rows.items;
+      as_many : length t.kept.items ≡ length t.rows.items;
+      few : length t.rows.items ≤ t.index.room;
+      small : t.index.room < 2 ^ 32;
+      rows_room : t.index.room ≤ vec_capacity t.rows;
+      kept_room : t.index.room ≤ vec_capacity t.kept;
+    } };
+}
+
+/// The lesser of an earlier number, if there is one, and a new one.
+fn lesser_of(earlier: Option<u64>, number: u64) -> u64
+    ensures { result ≡ lesser earlier number }
+{
+    match earlier {
+        None => number,
+        Some(least) => least.min(number),
+    }
+}
+
+impl Entered {
+    /// No groups, with room for so many.
+    pub(crate) fn new(alloc: Global, room: u32) -> Result<Entered, AllocError>
+        ensures { IfOk result (λ t. t ≡ record { room = room; rows = []; kept = [] }) }
+    {
+        let rows = Vec::with_capacity(alloc, room as usize)?;
+        let kept = Vec::with_capacity(alloc, room as usize)?;
+        let index = Places::new(alloc, room)?;
+        Ok(Entered { rows, kept, index })
+    }
+
+    /// The rows.
+    pub(crate) fn rows(&self) -> &[Row]
+        ensures { result.now ≡ self.now.rows }
+    {
+        self.rows.as_slice()
+    }
+
+    /// The rows, the rest being given up.
+    pub(crate) fn into_rows(self) -> Vec<Row>
+        ensures { result.items ≡ self.rows }
+    {
+        let Entered { rows, kept, index } = self;
+        let _ = kept;
+        let _ = index;
+        rows
+    }
+
+    /// How many rows there are.
+    pub(crate) fn len(&self) -> u32
+        ensures { result ≡ length self.now.rows }
+    {
+        self.rows.len() as u32
+    }
+
+    /// How many rows there may be.
+    pub(crate) fn room(&self) -> u32
+        ensures { result ≡ self.now.room }
+    {
+        self.index.room()
+    }
+
+    /// The place of the group, if it was entered.
+    pub(crate) fn place_of(&self, group: &Group) -> Option<u32>
+        ensures { result ≡ place_in (rows_of self.now.rows) (members group.now) }
+    {
+        self.index.find(group)
+    }
+
+    /// Enters the group. It takes no memory.
+    pub(crate) fn enter(&mut self, scratch: &mut Scratch, inst: &Instance, group: &Group)
+        requires of { IsTableOf (problem_of inst.now) self.old }
+        requires absent { place_in (rows_of self.old.rows) (members group.now) ≡ None }
+        requires room { length self.old.rows < self.old.room }
+        requires within { IsWithin (problem_of inst.now) (members group.now) }
+        requires goals { is_end (problem_of inst.now) (members group.now) ≡ false }
+        ensures of { IsTableOf (problem_of inst.now) self.new }
+        ensures room { self.new.room ≡ self.old.room }
+        ensures rows { self.new.rows ≡ self.old.rows ++ new_row group.now ∷ [] }
+    {
+        let kept = Kept::of(scratch, inst, group);
+        let place = self.rows.len() as u32;
+        self.index.add(group, place);
+        let row = Row {
+            group: *group,
+            low: 0,
+            up: u64::MAX,
+        };
+        let _ = self.rows.push(row);
+        let _ = self.kept.push(kept);
+    }
+
+    /// What a part counts for a low: 0 for one goal, the larger of its row's low and its bound, and the
+    /// bound where it has no row.
+    pub(crate) fn known_low(&self, scratch: &mut Scratch, inst: &Instance, group: &Group) -> u64
+        requires of { IsTableOf (problem_of inst.now) self.now }
+        requires within { IsWithin (problem_of inst.now) (members group.now) }
+        ensures value { result ≡ known_low_of (problem_of inst.now) (rows_of self.now.rows) (members group.now) }
+        ensures fits { result ≤ greatest_cost }
+    {
+        if is_leaf(inst, group) {
+            return 0;
+        }
+        match self.index.find(group) {
+            Some(place) => {
+                let low = self.rows[place as usize].low;
+                low.max(self.kept[place as usize].bound)
+            }
+            None => bound(scratch, inst, group),
+        }
+    }
+
+    /// What a part counts for an up: 0 for one goal, and the up of a row that has one.
+    pub(crate) fn known_up(&self, inst: &Instance, group: &Group) -> Option<u64>
+        ensures { result ≡ known_up_of (problem_of inst.now) (rows_of self.now.rows) (members group.now) }
+    {
+        if is_leaf(inst, group) {
+            return Some(0);
+        }
+        match self.index.find(group) {
+            Some(place) => {
+                let up = self.rows[place as usize].up;
+                if up == u64::MAX { None } else { Some(up) }
+            }
+            None => None,
+        }
+    }
+
+    /// The sum of a test over the group, of which the weight is known, and what its parts count for a
+    /// low.
+    fn low_sum(
+        &self,
+        scratch: &mut Scratch,
+        inst: &Instance,
+        group: &Group,
+        test: u32,
+        weight: u64,
+    ) -> u64
+        requires of { IsTableOf (problem_of inst.now) self.now }
+        requires within { IsWithin (problem_of inst.now) (members group.now) }
+        requires there { test < vec_len inst.now.costs }
+        requires weight { weight ≡ weight_sum (problem_of inst.now) (members group.now) }
+        ensures { result ≡ step_sum (problem_of inst.now) (known_low_of (problem_of inst.now) (rows_of self.now.rows)) (members group.now) test }
+    {
+        let pass_part = part(inst, group, test, Answer::Pass);
+        let pass = self.known_low(scratch, inst, &pass_part);
+        let fail_part = part(inst, group, test, Answer::Fail);
+        let fail = self.known_low(scratch, inst, &fail_part);
+        u64::from(inst.costs[test as usize]) * weight + (pass + fail)
+    }
+
+    /// The least of these sums over the splitting tests.
+    fn least_low_sum(
+        &self,
+        scratch: &mut Scratch,
+        inst: &Instance,
+        group: &Group,
+        weight: u64,
+    ) -> u64
+        requires of { IsTableOf (problem_of inst.now) self.now }
+        requires within { IsWithin (problem_of inst.now) (members group.now) }
+        requires weight { weight ≡ weight_sum (problem_of inst.now) (members group.now) }
+        ensures { result ≡ least_of (map (step_sum (problem_of inst.now) (known_low_of (problem_of inst.now) (rows_of self.now.rows)) (members group.now)) (splitting (problem_of inst.now) (members group.now))) }
+    {
+        let tests = inst.costs.len() as u32;
+        let mut least = None;
+        for test in 0..tests {
+            if splits(inst, group, test) {
+                let sum = self.low_sum(scratch, inst, group, test, weight);
+                least = Some(lesser_of(least, sum));
+            }
+        }
+        least.unwrap_or(0)
+    }
+
+    /// The most to which the row at the place may be raised.
+    pub(crate) fn most_low(&self, scratch: &mut Scratch, inst: &Instance, place: u32) -> u64
+        requires of { IsTableOf (problem_of inst.now) self.now }
+        requires there { place < length self.now.rows }
+        ensures { IsMostLow (problem_of inst.now) self.now.rows place result }
+    {
+        let group = self.rows[place as usize].group;
+        let kept = self.kept[place as usize];
+        let least = self.least_low_sum(scratch, inst, &group, kept.weight);
+        kept.bound.max(least)
+    }
+
+    /// The sum of a test over the group, of which the weight is known, and what its parts count for an
+    /// up, where both have one. A sum past the greatest word is that word.
+    fn up_sum(&self, inst: &Instance, group: &Group, test: u32, weight: u64) -> Option<u64>
+        requires within { IsWithin (problem_of inst.now) (members group.now) }
+        requires there { test < vec_len inst.now.costs }
+        requires weight { weight ≡ weight_sum (problem_of inst.now) (members group.now) }
+        ensures { result ≡ capped_value (step_value (problem_of inst.now) (known_up_of (problem_of inst.now) (rows_of self.now.rows)) (members group.now) test) }
+    {
+        let pass_part = part(inst, group, test, Answer::Pass);
+        let pass = self.known_up(inst, &pass_part)?;
+        let fail_part = part(inst, group, test, Answer::Fail);
+        let fail = self.known_up(inst, &fail_part)?;
+        let first = u64::from(inst.costs[test as usize]) * weight;
+        Some(first.saturating_add(pass).saturating_add(fail))
+    }
+
+    /// The least of greedy's cost and of these sums over the splitting tests.
+    fn least_up_sum(&self, inst: &Instance, group: &Group, weight: u64, greedy: u64) -> u64
+        requires within { IsWithin (problem_of inst.now) (members group.now) }
+        requires weight { weight ≡ weight_sum (problem_of inst.now) (members group.now) }
+        ensures { result ≡ least_of (greedy ∷ filter_map (step_value (problem_of inst.now) (known_up_of (problem_of inst.now) (rows_of self.now.rows)) (members group.now)) (splitting (problem_of inst.now) (members group.now))) }
+    {
+        let tests = inst.costs.len() as u32;
+        let mut least = greedy;
+        for test in 0..tests {
+            if splits(inst, group, test) {
+                least = lesser_of(self.up_sum(inst, group, test, weight), least);
+            }
+        }
+        least
+    }
+
+    /// The least to which the row at the place may be capped.
+    pub(crate) fn least_up(&self, inst: &Instance, place: u32) -> u64
+        requires of { IsTableOf (problem_of inst.now) self.now }
+        requires there { place < length self.now.rows }
+        ensures { IsLeastUp (problem_of inst.now) self.now.rows place result }
+    {
+        let group = self.rows[place as usize].group;
+        let kept = self.kept[place as usize];
+        self.least_up_sum(inst, &group, kept.weight, kept.greedy)
+    }
+
+    /// Raises the low of the row at the place to a number, if it is lower.
+    pub(crate) fn raise(&mut self, place: u32, to: u64)
+        requires { place < length self.old.rows }
+        ensures { self.new ≡ record self.old { rows = change_row self.old.rows place (raised to) } }
+    {
+        let row = &mut self.rows[place as usize];
+        row.low = row.low.max(to);
+    }
+
+    /// Caps the up of the row at the place to a number, if it is higher.
+    pub(crate) fn cap(&mut self, place: u32, to: u64)
+        requires { place < length self.old.rows }
+        ensures { self.new ≡ record self.old { rows = change_row self.old.rows place (capped to) } }
+    {
+        let row = &mut self.rows[place as usize];
+        row.up = row.up.min(to);
+    }
+}

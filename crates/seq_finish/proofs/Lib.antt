@@ -1,0 +1,5 @@
+pub mod FirstWhere
+pub mod RowLaws
+pub mod PlaceLaws
+pub mod StratLaws
+pub mod OutcomeLaws

@@ -1,0 +1,172 @@
+-- The outcome that is made from the rows of a search is right, and what a right outcome says. The set of entered groups
+-- stays the same when rows are settled, so whatever was sound of the search's rows holds of the outcome's.
+use Rattle.std.proofs.Common.{◌≡◌, ℕ, zero, suc, ◌<◌, ◌≤◌, List, [], ◌∷◌, length, map, refl, sym, ap, ◌∙◌, arith, inl, inr, subst, Option, Some, None}
+use Rattle.std.specs.Prelude.{true, false, All, IsSome, is_some, slice_index_or, vec_len}
+use Rattle.std.proofs.lemmas.Bool.{cases_Bool, cases_lt}
+use Rattle.std.proofs.lemmas.List.Elements.{All-map}
+use Rattle.seq_theory.specs.Problem.{Problem, IsWithin, AreTold, all_classes, is_end}
+use Rattle.seq_theory.specs.Tree.{Tree, tree_cost, Solves}
+use Rattle.seq_theory.specs.Graph.{same_group, is_entered, low, val, strat, IsReal}
+use Rattle.seq_theory.specs.Rows.{Row as PlainRow, groups_of, IsRow, AreDistinct, IsSound}
+use Rattle.seq_theory.proofs.LeastLaws.{count_up-IsIn}
+use Rattle.seq_theory.proofs.PublicLaws.{entered_holds}
+use Rattle.seq_theory.proofs.RowLaws.{same_group-refl, or-left, or-right, wanted-within}
+use Rattle.seq_theory.proofs.ValLaws.{val-end, val-entered}
+use Rattle.seq_inst.specs.declared.group.Group.{Group}
+use Rattle.seq_inst.specs.declared.outcome.Row.{Row}
+use Rattle.seq_inst.specs.declared.outcome.Verdict.{Verdict}
+use Rattle.seq_inst.specs.declared.outcome.Verdict.TheVariants.{Optimal, Bounded}
+use Rattle.seq_inst.specs.declared.outcome.Outcome.{Outcome}
+use Rattle.seq_inst.specs.Members.{members}
+use Rattle.seq_inst.specs.declared.instance.Instance.{Instance}
+use Rattle.seq_inst.specs.Instances.{problem_of}
+use Rattle.seq_inst.specs.Trees.{tree_of}
+use Rattle.seq_inst.specs.Shapes.{height, leaf_count, AsksSplitting}
+use Rattle.seq_inst.proofs.MembersLaws.{length-count_up}
+use Rattle.seq_inst.proofs.ShapeLaws.{leaves-le, height-lt-leaves}
+use Rattle.seq_finish.proofs.StratLaws.{the-value, strat-splitting}
+use Rattle.seq_core.specs.RowsOf.{row_of as row_from, rows_of as rows_from}
+use Rattle.seq_core.specs.Settled.{groups_in, value_or, AreGroups, settled_row, settled_rows}
+use Rattle.seq_finish.specs.Entered.{AreEnough, IsFull, MayStop}
+use Rattle.seq_finish.specs.Outcomes.{AreEntered, IsSettled, IsRightOutcome}
+use Rattle.seq_finish.specs.Laws.{OutcomeStands, OutcomesHold}
+
+pub within-all : (p : Problem) → IsWithin p (all_classes p)
+within-all p c i = let w = count_up-IsIn c 0 p.classes i in omega arith
+
+some_equal : (a b : ℕ) → Some a ≡ Some b → a ≡ b
+some_equal a b e = cc
+
+different : Optimal ≡ Bounded → ⊥
+different e = cc
+
+-- ---- what a right outcome says ----
+
+pub outcomes_hold : OutcomesHold
+outcomes_hold p limit least o weighed told r l =
+    let e = entered_holds p (groups_in o.rows.items) (all_classes p) least weighed told (within-all p) l in
+    let below : o.low ≤ least = subst (λ n. n ≤ least) r.low_is e.low_low in
+    let above : least ≤ o.cost = e.val_high o.cost r.cost_is in
+    record {
+      right = subst (λ t. Solves p t (all_classes p)) (sym r.strategy_is) (e.right o.cost r.cost_is);
+      costs = ap (λ t. tree_cost p t (all_classes p)) r.strategy_is ∙ e.costs o.cost r.cost_is;
+      low = below;
+      high = above;
+      optimal = λ v. let same : o.low ≡ o.cost = r.optimal.0 v in omega arith;
+      bounded = λ v. elim (cases_lt o.low o.cost) [
+        | inl lt ↦ lt
+        | inr ge ↦ absurd (let same : o.low ≡ o.cost = omega arith in different (sym (r.optimal.1 same) ∙ v))
+      ];
+    }
+
+-- ---- the rows of a search ----
+
+pub row-among : (rows : List Row) (k : ℕ) (d : Row) → k < length rows → IsRow (row_from (slice_index_or rows k d)) (rows_from rows)
+row-among [] k d lt = absurd (let bad : ⊥ = omega arith in bad)
+row-among (r ∷ rest) zero d lt = inl refl
+row-among (r ∷ rest) (suc k) d lt = inr (row-among rest k d (omega arith))
+
+pub row-entered : (rows : List Row) (k : ℕ) (d : Row) → k < length rows → is_entered (groups_in rows) (members (slice_index_or rows k d).group) ≡ true
+row-entered [] k d lt = absurd (let bad : ⊥ = omega arith in bad)
+row-entered (r ∷ rest) zero d lt = or-left _ _ (same_group-refl (members r.group))
+row-entered (r ∷ rest) (suc k) d lt = or-right (same_group (members (slice_index_or rest k d).group) (members r.group)) _ (row-entered rest k d (omega arith))
+
+module _ (p : Problem) where
+  pub rows-real : (limit : ℕ) (rows : List Row) → IsSound p limit (rows_from rows) → All (λ r. IsReal p (members r.group)) rows
+  rows-real limit rows s k d lt = s.real _ (row-among rows k d lt)
+
+  pub rows-groups : (limit : ℕ) (rows : List Row) → IsSound p limit (rows_from rows) → AreGroups p rows
+  rows-groups limit rows s = record {
+    distinct = s.distinct;
+    within = λ r i. wanted-within p r.group (s.real r i).wanted;
+    goals = λ r i. (s.real r i).goals;
+  }
+
+  -- ---- settled rows ----
+
+  settled-same : (other : List (List ℕ)) (rows : List Row) → groups_in (map (settled_row p other) rows) ≡ groups_in rows
+  settled-same other [] = refl
+  settled-same other (r ∷ rest) = ap (λ l. members r.group ∷ l) (settled-same other rest)
+
+  pub settled-entered : (rows : List Row) → groups_in (settled_rows p rows) ≡ groups_in rows
+  settled-entered rows = settled-same (groups_in rows) rows
+
+  length-rows : (rows : List Row) → length (rows_from rows) ≡ length rows
+  length-rows [] = refl
+  length-rows (r ∷ rest) = ap suc (length-rows rest)
+
+  length-settled : (other : List (List ℕ)) (rows : List Row) → length (map (settled_row p other) rows) ≡ length rows
+  length-settled other [] = refl
+  length-settled other (r ∷ rest) = ap suc (length-settled other rest)
+
+  or-some : (o : Option ℕ) (v : ℕ) → o ≡ Some v → o ≡ Some (value_or o)
+  or-some o v e = rw e refl
+
+  pub settled-all : (limit : ℕ) (rows : List Row) → IsSound p limit (rows_from rows) → All (IsSettled p (groups_in (settled_rows p rows))) (settled_rows p rows)
+  settled-all limit rows s = subst (λ g. All (IsSettled p g) (settled_rows p rows)) (sym (settled-entered rows))
+      (All-map (IsSettled p (groups_in rows)) (settled_row p (groups_in rows)) rows (λ k d lt.
+      let r = slice_index_or rows k d in
+      record {
+        low_is = refl;
+        up_is = or-some (val p (groups_in rows) (members r.group)) _ (val-entered p (groups_in rows) (members r.group) (rows-real limit rows s k d lt).goals (row-entered rows k d lt));
+      }))
+
+  pub are-entered : (limit : ℕ) (rows : List Row) → IsSound p limit (rows_from rows) → (is_end p (all_classes p) ≡ false → is_entered (groups_in rows) (all_classes p) ≡ true) → AreEntered p limit (settled_rows p rows)
+  are-entered limit rows s root = record {
+    distinct = subst AreDistinct (sym (settled-entered rows)) s.distinct;
+    real = All-map (λ r. IsReal p (members r.group)) (settled_row p (groups_in rows)) rows (rows-real limit rows s);
+    few = (let f = s.few in let l = length-rows rows in let m = length-settled (groups_in rows) rows in omega arith);
+    root = λ e. subst (λ g. is_entered g (all_classes p) ≡ true) (sym (settled-entered rows)) (root e);
+  }
+
+  -- the group of all classes has a value
+  pub root-valued : (entered : List (List ℕ)) → (is_end p (all_classes p) ≡ false → is_entered entered (all_classes p) ≡ true) → IsSome (val p entered (all_classes p))
+  root-valued entered root = elim (cases_Bool (is_end p (all_classes p))) [
+    | inl e ↦ ap is_some (val-end p entered (all_classes p) e)
+    | inr e ↦ ap is_some (val-entered p entered (all_classes p) e (root e))
+  ]
+
+  -- ---- the outcome ----
+
+  pub outcome-right : (limit : ℕ) (rows : List Row) (missed : Option Group) (o : Outcome) → IsSound p limit (rows_from rows)
+      → (is_end p (all_classes p) ≡ false → is_entered (groups_in rows) (all_classes p) ≡ true) → MayStop p limit (groups_in rows) missed
+      → o.rows.items ≡ settled_rows p rows → tree_of o.strategy ≡ strat p (groups_in rows) (all_classes p)
+      → val p (groups_in rows) (all_classes p) ≡ Some o.cost → o.low ≡ low p (groups_in rows) (all_classes p) → o.limit ≡ limit
+      → (o.verdict ≡ Optimal → o.low ≡ o.cost) → (o.low ≡ o.cost → o.verdict ≡ Optimal)
+      → (o.verdict ≡ Optimal → o.missed ≡ None) → (o.verdict ≡ Bounded → o.missed ≡ missed) → IsRightOutcome p limit o
+  outcome-right limit rows missed o s root stop items tree cost lows limit_is to from optimal bounded =
+      let same : groups_in o.rows.items ≡ groups_in rows = ap groups_in items ∙ settled-entered rows in
+      record {
+        entered = subst (AreEntered p limit) (sym items) (are-entered limit rows s root);
+        settled = subst (λ l. All (IsSettled p (groups_in l)) l) (sym items) (settled-all limit rows s);
+        strategy_is = tree ∙ ap (λ g. strat p g (all_classes p)) (sym same);
+        cost_is = ap (λ g. val p g (all_classes p)) same ∙ cost;
+        low_is = ap (λ g. low p g (all_classes p)) same ∙ sym lows;
+        limit_is = limit_is;
+        optimal = (to, from);
+        none_missed = optimal;
+        full = λ v. elim stop [
+          | inl enough ↦ absurd (different (sym (from (lows ∙ some_equal _ o.cost (sym enough ∙ cost))) ∙ v))
+          | inr full ↦ subst (λ g. IsFull p limit g o.missed) (sym same) (subst (IsFull p limit (groups_in rows)) (sym (bounded v)) full)
+        ];
+      }
+
+-- the shape of the strategy over all classes
+pub outcome-shape : (inst : Instance) (entered : List (List ℕ)) (tree : Tree)
+    → (is_end (problem_of inst) (all_classes (problem_of inst)) ≡ false → is_entered entered (all_classes (problem_of inst)) ≡ true)
+    → tree ≡ strat (problem_of inst) entered (all_classes (problem_of inst)) → record {
+      splitting : AsksSplitting (problem_of inst) tree (all_classes (problem_of inst));
+      leaves : leaf_count tree ≤ vec_len inst.weights;
+      short : height tree ≤ 512;
+    }
+outcome-shape inst entered tree root is =
+    let p = problem_of inst in
+    let v = the-value (val p entered (all_classes p)) (root-valued p entered root) in
+    let splitting = subst (λ t. AsksSplitting p t (all_classes p)) (sym is) (strat-splitting p entered (all_classes p) v.0 inst.valid.told (within-all p) v.1) in
+    let long = length-count_up 0 (length inst.weights.items) in
+    let some = inst.valid.some in
+    let few = inst.valid.few in
+    let leaves = leaves-le p tree (all_classes p) splitting (omega arith) in
+    let high = height-lt-leaves tree in
+    let n = inst.weights.ok.0 in
+    record { splitting = splitting; leaves = omega arith; short = omega arith }

@@ -1,0 +1,79 @@
+//! The outcome of a search's rows.
+ghost use Rattle.std.specs.Prelude.{◌≡◌, ◌≤◌, ◌↔◌, false, true, IfOk, None, vec_len};
+ghost use Rattle.seq_theory.specs.Problem.{all_classes, is_end};
+ghost use Rattle.seq_theory.specs.Graph.{is_entered, low, val};
+ghost use Rattle.seq_theory.specs.Rows.{IsSound};
+ghost use Rattle.seq_inst.specs.Instances.{problem_of};
+ghost use Rattle.seq_inst.specs.Members.{members};
+ghost use Rattle.seq_inst.specs.Trees.{tree_of};
+ghost use Rattle.seq_inst.specs.Shapes.{height, leaf_count, AsksSplitting};
+ghost use Rattle.seq_core.specs.RowsOf.{rows_of as rows_from};
+ghost use Rattle.seq_core.specs.Settled.{groups_in, settled_rows};
+ghost use Rattle.seq_finish.specs.Entered.{MayStop};
+ghost use Rattle.seq_finish.specs.Outcomes.{AreEntered, IsRightOutcome};
+
+use crate::places::{bounds_of, index_of};
+use crate::settled::settle;
+use crate::strategy::strategy_of;
+use seq_huff::Scratch;
+use seq_inst::{Group, Instance, Outcome, Row, Verdict, root};
+use std::alloc::{AllocError, Global};
+
+/// Whether the low shows that the cost is the least.
+fn verdict_of(low: u64, cost: u64) -> Verdict
+    ensures { (result ≡ Verdict.Optimal) ↔ (low ≡ cost) }
+{
+    if low == cost {
+        Verdict::Optimal
+    } else {
+        Verdict::Bounded
+    }
+}
+
+/// What was missed, unless the verdict is optimal.
+fn still_missed(verdict: Verdict, missed: Option<Group>) -> Option<Group>
+    ensures optimal { verdict ≡ Verdict.Optimal → result ≡ None }
+    ensures bounded { verdict ≡ Verdict.Bounded → result ≡ missed }
+{
+    match verdict {
+        Verdict::Optimal => None,
+        Verdict::Bounded => missed,
+    }
+}
+
+/// The outcome of a search that entered these rows' groups: of the rows it takes the groups alone. A
+/// group that was missed stands in the outcome only where the entered ones do not show the least cost.
+pub fn finish(
+    alloc: Global,
+    inst: &Instance,
+    limit: u32,
+    rows: Vec<Row>,
+    missed: Option<Group>,
+) -> Result<Outcome, AllocError>
+    requires sound { IsSound (problem_of inst.now) limit (rows_from rows.items) }
+    requires root { is_end (problem_of inst.now) (all_classes (problem_of inst.now)) ≡ false → is_entered (groups_in rows.items) (all_classes (problem_of inst.now)) ≡ true }
+    requires stopped { MayStop (problem_of inst.now) limit (groups_in rows.items) missed }
+    ensures right { IfOk result (IsRightOutcome (problem_of inst.now) limit) }
+    ensures rows { IfOk result (λ o. o.rows.items ≡ settled_rows (problem_of inst.now) rows.items) }
+    ensures missed { IfOk result (λ o. o.verdict ≡ Verdict.Bounded → o.missed ≡ missed) }
+    ensures splitting { IfOk result (λ o. AsksSplitting (problem_of inst.now) (tree_of o.strategy) (all_classes (problem_of inst.now))) }
+    ensures leaves { IfOk result (λ o. leaf_count (tree_of o.strategy) ≤ vec_len inst.now.weights) }
+    ensures short { IfOk result (λ o. height (tree_of o.strategy) ≤ 512) }
+{
+    let mut scratch = Scratch::new();
+    let rows = settle(alloc, &mut scratch, inst, rows.as_slice())?;
+    let places = index_of(alloc, rows.as_slice())?;
+    let all = root(inst);
+    let strategy = strategy_of(alloc, &mut scratch, inst, rows.as_slice(), &places, &all)?;
+    let bounds = bounds_of(inst, rows.as_slice(), &places, &all);
+    let verdict = verdict_of(bounds.low, bounds.cost);
+    Ok(Outcome {
+        verdict,
+        strategy,
+        cost: bounds.cost,
+        low: bounds.low,
+        limit,
+        rows,
+        missed: still_missed(verdict, missed),
+    })
+}

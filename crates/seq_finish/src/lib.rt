@@ -1,0 +1,19 @@
+//! From the rows of a search to its outcome.
+//!
+//! Whatever order a search entered its groups in, and whatever bounds it kept of them, the outcome is
+//! made from the set of entered groups alone: lows and values are computed anew over the whole set, the
+//! strategy follows the values, and the verdict is that low and cost of the group of all classes are
+//! equal. So two searches that entered the same groups end with the same outcome, and an outcome may
+//! be optimal where the search that made the rows had met its limit.
+#![tactic(auto)]
+
+mod ending;
+mod laws;
+mod places;
+mod settled;
+mod strategy;
+#[cfg(test)]
+mod tests;
+
+pub use ending::finish;
+pub use laws::outcomes_hold;

@@ -1,0 +1,105 @@
+//! The strategy of the entered groups. Where greedy costs a group's value, greedy's whole tree is taken,
+//! even where another test reaches the value too; else the lowest test that reaches it is asked, and so
+//! on in both parts. No bound is computed anew: the values stand in the rows.
+ghost use Rattle.std.specs.Prelude.{◌≡◌, ◌≢◌, ◌<◌, false, All, IfOk, IsSome, vec_len};
+ghost use Rattle.seq_theory.specs.Problem.{IsWithin, is_end, weight_of as weight_sum};
+ghost use Rattle.seq_theory.specs.Greedy.{greedy_cost as cost_of_greedy};
+ghost use Rattle.seq_theory.specs.Graph.{val, is_value, step_value, value_test as lowest_test, strat};
+ghost use Rattle.seq_inst.specs.Members.{members};
+ghost use Rattle.seq_inst.specs.Instances.{problem_of};
+ghost use Rattle.seq_inst.specs.Trees.{tree_of};
+ghost use Rattle.seq_core.specs.Tables.{numbered};
+ghost use Rattle.seq_core.specs.Settled.{groups_in};
+ghost use Rattle.seq_finish.specs.Outcomes.{IsSettled};
+
+use crate::places::value_of;
+use seq_core::Places;
+use seq_huff::{Scratch, greedy, greedy_cost};
+use seq_inst::{
+    Answer, Group, Instance, Row, Strategy, ask_first, is_leaf, part, splits, weight_of,
+};
+use std::alloc::{AllocError, Global};
+
+/// Whether the test, and the values of its parts, cost this together. A part without a value reaches
+/// nothing.
+fn reaches(
+    inst: &Instance,
+    rows: &[Row],
+    places: &Places,
+    group: &Group,
+    test: u32,
+    weight: u64,
+    value: u64,
+) -> bool
+    requires placed { places.now.placed ≡ numbered 0 rows.now }
+    requires settled { All (IsSettled (problem_of inst.now) (groups_in rows.now)) rows.now }
+    requires within { IsWithin (problem_of inst.now) (members group.now) }
+    requires there { test < vec_len inst.now.costs }
+    requires weight { weight ≡ weight_sum (problem_of inst.now) (members group.now) }
+    ensures { result ≡ is_value (step_value (problem_of inst.now) (val (problem_of inst.now) (groups_in rows.now)) (members group.now) test) (Some value) }
+{
+    let pass_part = part(inst, group, test, Answer::Pass);
+    let fail_part = part(inst, group, test, Answer::Fail);
+    match (
+        value_of(inst, rows, places, &pass_part),
+        value_of(inst, rows, places, &fail_part),
+    ) {
+        (Some(pass), Some(fail)) => {
+            u64::from(inst.costs[test as usize]) * weight + (pass + fail) == value
+        }
+        _ => false,
+    }
+}
+
+/// The lowest test that reaches the group's value, where greedy costs more.
+fn value_test(inst: &Instance, rows: &[Row], places: &Places, group: &Group, value: u64) -> u32
+    requires placed { places.now.placed ≡ numbered 0 rows.now }
+    requires settled { All (IsSettled (problem_of inst.now) (groups_in rows.now)) rows.now }
+    requires within { IsWithin (problem_of inst.now) (members group.now) }
+    requires value { val (problem_of inst.now) (groups_in rows.now) (members group.now) ≡ Some value }
+    requires more { is_end (problem_of inst.now) (members group.now) ≡ false }
+    requires dear { cost_of_greedy (problem_of inst.now) (members group.now) ≢ value }
+    ensures { result ≡ lowest_test (problem_of inst.now) (groups_in rows.now) (members group.now) }
+{
+    let weight = weight_of(inst, group);
+    let tests = inst.costs.len() as u32;
+    for test in 0..tests {
+        if splits(inst, group, test) && reaches(inst, rows, places, group, test, weight, value) {
+            return test;
+        }
+    }
+    unreachable!()
+}
+
+/// The strategy of a group that has a value.
+pub(crate) fn strategy_of(
+    alloc: Global,
+    scratch: &mut Scratch,
+    inst: &Instance,
+    rows: &[Row],
+    places: &Places,
+    group: &Group,
+) -> Result<Strategy, AllocError>
+    requires placed { places.now.placed ≡ numbered 0 rows.now }
+    requires settled { All (IsSettled (problem_of inst.now) (groups_in rows.now)) rows.now }
+    requires within { IsWithin (problem_of inst.now) (members group.now) }
+    requires valued { IsSome (val (problem_of inst.now) (groups_in rows.now) (members group.now)) }
+    ensures { IfOk result (λ s. tree_of s ≡ strat (problem_of inst.now) (groups_in rows.now) (members group.now)) }
+{
+    if is_leaf(inst, group) {
+        return Ok(Strategy::Leaf);
+    }
+    let value = match value_of(inst, rows, places, group) {
+        Some(value) => value,
+        None => unreachable!(),
+    };
+    if greedy_cost(scratch, inst, group) == value {
+        return greedy(alloc, scratch, inst, group);
+    }
+    let test = value_test(inst, rows, places, group, value);
+    let pass_part = part(inst, group, test, Answer::Pass);
+    let pass = strategy_of(alloc, scratch, inst, rows, places, &pass_part)?;
+    let fail_part = part(inst, group, test, Answer::Fail);
+    let fail = strategy_of(alloc, scratch, inst, rows, places, &fail_part)?;
+    ask_first(alloc, test, pass, fail)
+}

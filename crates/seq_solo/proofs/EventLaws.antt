@@ -1,0 +1,241 @@
+-- The code's events are the theory's, and so keep the rows sound: raising and capping a row changes one row of the list, and
+-- entering adds one.
+use Rattle.std.proofs.Common.{◌≡◌, ℕ, zero, suc, ◌+◌, ◌*◌, ◌<◌, ◌≤◌, max, min, List, [], ◌∷◌, ◌++◌, length, get_or, set, refl, sym, ap, ◌∙◌, arith, inl, inr, subst, Option, Some, None, map, length-append}
+use Rattle.std.specs.Prelude.{Bool, true, false, cond, nat_eq, All, slice_get}
+use Rattle.std.specs.List.{filter_map}
+use Rattle.std.proofs.lemmas.Bool.{cases_Bool, or_parts}
+use Rattle.std.proofs.lemmas.List.{get_or-set_same, map-append}
+use Rattle.std.proofs.lemmas.List.Elements.{All-set, All-push}
+use Rattle.std.proofs.lemmas.Option.{slice_get-get_or}
+use Rattle.std.proofs.Math.ListN.{length-set}
+use Rattle.seq_theory.specs.Problem.{Problem, IsWithin, IsWeighed, AreTold, is_end, splitting, least_of, pass_part, fail_part, weight_of}
+use Rattle.seq_theory.specs.Bound.{bound, step_sum}
+use Rattle.seq_theory.specs.Greedy.{greedy_cost, first_least}
+use Rattle.seq_theory.specs.Graph.{same_group, is_entered, step_value, sum_with, IsReal}
+use Rattle.seq_theory.specs.Rows.{Row as PlainRow, no_value, groups_of, IsSound, row_of, known_low, up_or, known_up, most_low, least_up, enter, raise, cap, change_at, after}
+use Rattle.seq_theory.proofs.LeastLaws.{least}
+use Rattle.seq_theory.proofs.RowLaws.{events-sound}
+use Rattle.seq_theory.proofs.PartsRecursion.{filter_map-agree}
+use Rattle.seq_huff.specs.Bounds.{greatest_cost}
+use Rattle.seq_huff.proofs.LeastBounds.{weighed}
+use Rattle.seq_inst.specs.declared.group.Group.{Group}
+use Rattle.seq_inst.specs.declared.instance.Instance.{Instance}
+use Rattle.seq_inst.specs.declared.outcome.Row.{Row}
+use Rattle.seq_inst.specs.Members.{members}
+use Rattle.seq_inst.specs.Instances.{problem_of}
+use Rattle.seq_core.specs.RowsOf.{row_of as row_from, rows_of as rows_from}
+use Rattle.seq_core.specs.Mapping.{Placed, place_of}
+use Rattle.seq_core.specs.Tables.{numbered}
+use Rattle.seq_solo.specs.Known.{IsKnown, HasSmallUp, no_row, row_at, group_at, raised_at, capped_at, Narrows, IsClosedAt}
+use Rattle.seq_solo.proofs.KnownLaws.{sized, row-real, row-within, row-bounds}
+use Rattle.seq_solo.proofs.ChoiceLaws.{least_test-first, most_low-is}
+
+-- ---- lists of rows ----
+
+raised-rows : (rows : List Row) (k n to : ℕ) → n ≡ (row_at rows k).low → k < length rows → rows_from (set rows k (record (row_at rows k) { low = max n to })) ≡ after (rows_from rows) (raise k to)
+raised-rows [] k n to is lt = absurd (let bad : ⊥ = omega arith in bad)
+raised-rows (r ∷ rest) zero n to is lt = ap (λ m. record { group = members r.group; low = max m to; up = r.up } ∷ rows_from rest) is
+raised-rows (r ∷ rest) (suc k) n to is lt = ap (λ l. row_from r ∷ l) (raised-rows rest k n to is (omega arith))
+
+pub raised-from : (rows : List Row) (k to : ℕ) → k < length rows → rows_from (raised_at rows k to) ≡ after (rows_from rows) (raise k to)
+raised-from rows k to lt = raised-rows rows k (row_at rows k).low to refl lt
+
+capped-rows : (rows : List Row) (k n to : ℕ) → n ≡ (row_at rows k).up → k < length rows → rows_from (set rows k (record (row_at rows k) { up = min n to })) ≡ after (rows_from rows) (cap k to)
+capped-rows [] k n to is lt = absurd (let bad : ⊥ = omega arith in bad)
+capped-rows (r ∷ rest) zero n to is lt = ap (λ m. record { group = members r.group; low = r.low; up = min m to } ∷ rows_from rest) is
+capped-rows (r ∷ rest) (suc k) n to is lt = ap (λ l. row_from r ∷ l) (capped-rows rest k n to is (omega arith))
+
+pub capped-from : (rows : List Row) (k to : ℕ) → k < length rows → rows_from (capped_at rows k to) ≡ after (rows_from rows) (cap k to)
+capped-from rows k to lt = capped-rows rows k (row_at rows k).up to refl lt
+
+pub row-get : (rows : List Row) (k : ℕ) → k < length rows → slice_get (rows_from rows) k ≡ Some (row_from (row_at rows k))
+row-get [] k lt = absurd (let bad : ⊥ = omega arith in bad)
+row-get (r ∷ rest) zero lt = refl
+row-get (r ∷ rest) (suc k) lt = row-get rest k (omega arith)
+
+-- the map of places looks at groups alone
+placed-set : (n : ℕ) (rows : List Row) (k : ℕ) (x : Row) → k < length rows → x.group ≡ group_at rows k → numbered n (set rows k x) ≡ numbered n rows
+placed-set n [] k x lt e = refl
+placed-set n (r ∷ rest) zero x lt e = ap (λ (g : Group). record { group = members g; place = n } ∷ numbered (suc n) rest) e
+placed-set n (r ∷ rest) (suc k) x lt e = ap (λ l. record { group = members r.group; place = n } ∷ l) (placed-set (suc n) rest k x (omega arith) e)
+
+-- ---- narrower rows ----
+
+pub Narrows-refl : (rows : List Row) → Narrows rows rows
+Narrows-refl [] = tt
+Narrows-refl (r ∷ rest) = (refl, omega arith, omega arith, Narrows-refl rest)
+
+pub Narrows-trans : (a b c : List Row) → Narrows a b → Narrows b c → Narrows a c
+Narrows-trans [] [] c h k = k
+Narrows-trans [] (s ∷ ss) c h k = absurd h
+Narrows-trans (r ∷ rs) [] c h k = absurd h
+Narrows-trans (r ∷ rs) (s ∷ ss) [] h k = absurd k
+Narrows-trans (r ∷ rs) (s ∷ ss) (t ∷ ts) h k =
+    let l1 = h.1 in
+    let l2 = k.1 in
+    let u1 = h.2 in
+    let u2 = k.2 in
+    (k.0 ∙ h.0, omega arith, omega arith, Narrows-trans rs ss ts h.3 k.3)
+
+pub Narrows-set : (rows : List Row) (k : ℕ) (x : Row) → k < length rows → x.group ≡ group_at rows k → (row_at rows k).low ≤ x.low → x.up ≤ (row_at rows k).up → Narrows rows (set rows k x)
+Narrows-set [] k x lt g l u = tt
+Narrows-set (r ∷ rest) zero x lt g l u = (g, l, u, Narrows-refl rest)
+Narrows-set (r ∷ rest) (suc k) x lt g l u = (refl, omega arith, omega arith, Narrows-set rest k x (omega arith) g l u)
+
+pub length-Narrows : (a b : List Row) → Narrows a b → length b ≡ length a
+length-Narrows [] [] h = refl
+length-Narrows [] (s ∷ ss) h = absurd h
+length-Narrows (r ∷ rs) [] h = absurd h
+length-Narrows (r ∷ rs) (s ∷ ss) h = ap suc (length-Narrows rs ss h.3)
+
+pub group-Narrows : (a b : List Row) (k : ℕ) → Narrows a b → k < length a → group_at b k ≡ group_at a k
+group-Narrows [] b k h lt = absurd (let bad : ⊥ = omega arith in bad)
+group-Narrows (r ∷ rs) [] k h lt = absurd h
+group-Narrows (r ∷ rs) (s ∷ ss) zero h lt = h.0
+group-Narrows (r ∷ rs) (s ∷ ss) (suc k) h lt = group-Narrows rs ss k h.3 (omega arith)
+
+-- ---- raising changes no up ----
+
+up-changed : (rows : List PlainRow) (k to : ℕ) (group : List ℕ) → up_or (row_of (after rows (raise k to)) group) ≡ up_or (row_of rows group)
+up-changed [] k to group = refl
+up-changed (r ∷ rest) zero to group = elim (cases_Bool (same_group group r.group)) [ inl y ↦ rw y refl | inr n ↦ rw n refl ]
+up-changed (r ∷ rest) (suc k) to group = elim (cases_Bool (same_group group r.group)) [ inl y ↦ rw y refl | inr n ↦ rw n (up-changed rest k to group) ]
+
+module _ (p : Problem) where
+  known_up-raised : (rows : List PlainRow) (k to : ℕ) (group : List ℕ) → known_up p (after rows (raise k to)) group ≡ known_up p rows group
+  known_up-raised rows k to group = ap (λ o. cond (is_end p group) (Some 0) o) (up-changed rows k to group)
+
+  pub least_up-raised : (rows : List PlainRow) (k to : ℕ) (group : List ℕ) → least_up p (after rows (raise k to)) group ≡ least_up p rows group
+  least_up-raised rows k to group = ap (λ l. least_of (greedy_cost p group ∷ l)) (filter_map-agree (step_value p (known_up p (after rows (raise k to))) group) (step_value p (known_up p rows) group) (splitting p group) (λ t i.
+      ap (λ a. sum_with (p.cost t * weight_of p group) a (known_up p (after rows (raise k to)) (fail_part p t group))) (known_up-raised rows k to (pass_part p t group))
+      ∙ ap (λ b. sum_with (p.cost t * weight_of p group) (known_up p rows (pass_part p t group)) b) (known_up-raised rows k to (fail_part p t group))))
+
+  sound-more : (n m : ℕ) (rows : List PlainRow) → n ≤ m → IsSound p n rows → IsSound p m rows
+  sound-more n m rows le s = record {
+    few = (let f = s.few in omega arith);
+    distinct = s.distinct;
+    real = s.real;
+    lows = s.lows;
+    ups = s.ups;
+  }
+
+  -- a map without the group
+  place-absent : (n : ℕ) (rows : List Row) (group : List ℕ) → is_entered (groups_of (rows_from rows)) group ≡ false → place_of (numbered n rows) group ≡ None
+  place-absent n [] group e = refl
+  place-absent n (r ∷ rest) group e = let s = or_parts (same_group group (members r.group)) (is_entered (groups_of (rows_from rest)) group) e in rw s.0 (place-absent (suc n) rest group s.1)
+
+  pub known-absent : (rows : List Row) (placed : List Placed) (group : List ℕ) → IsKnown p rows placed → is_entered (groups_of (rows_from rows)) group ≡ false → place_of placed group ≡ None
+  known-absent rows placed group known e = ap (λ l. place_of l group) known.placed_is ∙ place-absent 0 rows group e
+
+length-from : (rows : List Row) → length (rows_from rows) ≡ length rows
+length-from [] = refl
+length-from (r ∷ rest) = ap suc (length-from rest)
+
+length-placed : (n : ℕ) (rows : List Row) → length (numbered n rows) ≡ length rows
+length-placed n [] = refl
+length-placed n (r ∷ rest) = ap suc (length-placed (suc n) rest)
+
+pub known-length : (p : Problem) (rows : List Row) (placed : List Placed) → IsKnown p rows placed → length placed ≡ length rows
+known-length p rows placed known = ap length known.placed_is ∙ length-placed 0 rows
+
+placed-last : (n m : ℕ) (rows : List Row) (r : Row) → m ≡ n + length rows → numbered n rows ++ record { group = members r.group; place = m } ∷ [] ≡ numbered n (rows ++ r ∷ [])
+placed-last n m [] r e = (let same : m ≡ n = omega arith in ap (λ k. record { group = members r.group; place = k } ∷ []) same)
+placed-last n m (s ∷ rest) r e = ap (λ l. record { group = members s.group; place = n } ∷ l) (placed-last (suc n) m rest r (omega arith))
+
+-- ---- refreshing one row ----
+
+-- what the code owes where it raises a row to low, and then caps it to up
+pub record IsRefreshed (p : Problem) (old new : List Row) (placed : List Placed) (k : ℕ) : Type 0 where
+  pub known : IsKnown p new placed
+  pub narrows : Narrows old new
+  pub closes : least_up p (rows_from old) (members (group_at old k)) ≤ most_low p (rows_from old) (members (group_at old k)) → IsClosedAt new k
+
+module _ (inst : Instance) (rows : List Row) (placed : List Placed) (k low up : ℕ) (known : IsKnown (problem_of inst) rows placed) (lt : k < length rows)
+    (low_is : low ≡ most_low (problem_of inst) (rows_from rows) (members (group_at rows k)))
+    (up_is : up ≡ least_up (problem_of inst) (rows_from rows) (members (group_at rows k)))
+    (small : up ≤ greatest_cost) where
+  raised-long : length (raised_at rows k low) ≡ length rows
+  raised-long = length-set rows k _
+
+  raised-row : row_at (raised_at rows k low) k ≡ record (row_at rows k) { low = max (row_at rows k).low low }
+  raised-row = get_or-set_same rows k _ no_row lt
+
+  raised-sound : IsSound (problem_of inst) (length rows) (rows_from (raised_at rows k low))
+  raised-sound = subst (IsSound (problem_of inst) (length rows)) (sym (raised-from rows k low lt))
+      (events-sound (problem_of inst) (length rows) (rows_from rows) (raise k low ∷ []) (sized inst) inst.valid.told known.sound
+      ((row_from (row_at rows k), row-get rows k lt, (let le : low ≤ most_low (problem_of inst) (rows_from rows) (members (group_at rows k)) = omega arith in le)), tt))
+
+  capped-sound : IsSound (problem_of inst) (length rows) (rows_from (capped_at (raised_at rows k low) k up))
+  capped-sound =
+      let lt2 : k < length (raised_at rows k low) = (let l = raised-long in omega arith) in
+      let same : least_up (problem_of inst) (rows_from (raised_at rows k low)) (members (group_at rows k)) ≡ up =
+      ap (λ l. least_up (problem_of inst) l (members (group_at rows k))) (raised-from rows k low lt) ∙ least_up-raised (problem_of inst) (rows_from rows) k low (members (group_at rows k)) ∙ sym up_is in
+      subst (IsSound (problem_of inst) (length rows)) (sym (capped-from (raised_at rows k low) k up lt2))
+      (events-sound (problem_of inst) (length rows) (rows_from (raised_at rows k low)) (cap k up ∷ []) (sized inst) inst.valid.told raised-sound (
+        (
+          row_from (row_at (raised_at rows k low) k),
+          row-get (raised_at rows k low) k lt2,
+          subst (λ (r : Row). least_up (problem_of inst) (rows_from (raised_at rows k low)) (members r.group) ≤ up) (sym raised-row) (omega arith),
+        ),
+        tt,
+      ))
+
+  capped-row : row_at (capped_at (raised_at rows k low) k up) k ≡ record { group = group_at rows k; low = max (row_at rows k).low low; up = min (row_at rows k).up up }
+  capped-row = get_or-set_same (raised_at rows k low) k _ no_row (let l = raised-long in omega arith) ∙ ap (λ (r : Row). record r { up = min r.up up }) raised-row
+
+  capped-long : length (capped_at (raised_at rows k low) k up) ≡ length rows
+  capped-long = length-set (raised_at rows k low) k _ ∙ raised-long
+
+  capped-known : IsKnown (problem_of inst) (capped_at (raised_at rows k low) k up) placed
+  capped-known =
+      let lt2 : k < length (raised_at rows k low) = (let l = raised-long in omega arith) in
+      record {
+        sound = subst (λ n. IsSound (problem_of inst) n (rows_from (capped_at (raised_at rows k low) k up))) (sym capped-long) capped-sound;
+        small = All-set HasSmallUp (raised_at rows k low) k _ (inr (let m : min (row_at (raised_at rows k low) k).up up ≤ greatest_cost = omega arith in m)) (All-set HasSmallUp rows k _ (known.small k no_row lt) known.small);
+        placed_is = known.placed_is ∙ sym (placed-set 0 (raised_at rows k low) k _ lt2 refl ∙ placed-set 0 rows k _ lt refl);
+      }
+
+  pub is-refreshed : (new : List Row) → new ≡ capped_at (raised_at rows k low) k up → IsRefreshed (problem_of inst) rows new placed k
+  is-refreshed new is = subst (λ l. IsRefreshed (problem_of inst) rows l placed k) (sym is)
+      (let lt2 : k < length (raised_at rows k low) = (let l = raised-long in omega arith) in
+      record {
+        known = capped-known;
+        narrows = Narrows-trans rows (raised_at rows k low) (capped_at (raised_at rows k low) k up) (Narrows-set rows k _ lt refl (omega arith) (omega arith)) (Narrows-set (raised_at rows k low) k _ lt2 refl (omega arith) (omega arith));
+        closes = λ le.
+            let lt3 : k < length (capped_at (raised_at rows k low) k up) = (let l = capped-long in omega arith) in
+            let b = row-bounds (problem_of inst) (capped_at (raised_at rows k low) k up) placed capped-known (weighed inst) inst.valid.told k lt3 in
+            let between : (row_at (capped_at (raised_at rows k low) k up) k).low ≤ (row_at (capped_at (raised_at rows k low) k up) k).up = (let b0 = b.0 in let b1 = b.1 in omega arith) in
+            subst (λ (r : Row). r.low ≡ r.up) (sym capped-row) (let both = subst (λ (r : Row). r.low ≤ r.up) capped-row between in omega arith);
+      })
+
+-- ---- entering a group ----
+
+pub entered-known : (inst : Instance) (rows : List Row) (placed : List Placed) (g : Group) (place : ℕ) → IsKnown (problem_of inst) rows placed → IsReal (problem_of inst) (members g) → is_entered (groups_of (rows_from rows)) (members g) ≡ false → place ≡ length rows
+    → IsKnown (problem_of inst) (rows ++ record { group = g; low = 0; up = no_value } ∷ []) (placed ++ record { group = members g; place = place } ∷ [])
+entered-known inst rows placed g place known real new at =
+    let p = problem_of inst in
+    let row : Row = record { group = g; low = 0; up = no_value } in
+    let long = length-append rows (row ∷ []) in
+    let more = length-from rows in
+    record {
+      sound = subst (IsSound p (length (rows ++ row ∷ []))) (sym (map-append row_from rows (row ∷ [])))
+          (events-sound p (length (rows ++ row ∷ [])) (rows_from rows) (enter (members g) ∷ []) (sized inst) inst.valid.told (sound-more p (length rows) (length (rows ++ row ∷ [])) (rows_from rows) (omega arith) known.sound)
+          ((real, new, omega arith), tt));
+      small = All-push HasSmallUp rows row known.small (inl refl);
+      placed_is = ap (λ l. l ++ record { group = members g; place = place } ∷ []) known.placed_is ∙ placed-last 0 place rows row (omega arith);
+    }
+
+-- in the words of the code: the row is raised to the larger of its bound and the least sum, and capped by the least up
+pub refresh-holds : (inst : Instance) (rows raised new : List Row) (placed : List Placed) (k test sum b low up : ℕ) → IsKnown (problem_of inst) rows placed → k < length rows
+    → test ≡ first_least (step_sum (problem_of inst) (known_low (problem_of inst) (rows_from rows)) (members (group_at rows k))) (splitting (problem_of inst) (members (group_at rows k)))
+    → sum ≡ step_sum (problem_of inst) (known_low (problem_of inst) (rows_from rows)) (members (group_at rows k)) test
+    → b ≡ bound (problem_of inst) (members (group_at rows k)) → low ≡ max b sum
+    → up ≡ least_up (problem_of inst) (rows_from rows) (members (group_at rows k)) → up ≤ greatest_cost
+    → raised ≡ raised_at rows k low → new ≡ capped_at raised k up → IsRefreshed (problem_of inst) rows new placed k
+refresh-holds inst rows raised new placed k test sum b low up known lt test_is sum_is bound_is low_is up_is small raised_is new_is =
+    let p = problem_of inst in
+    let g = members (group_at rows k) in
+    let within = row-within p rows placed known k lt in
+    let more = (row-real p rows placed known k lt).goals in
+    let first = least_test-first p (step_sum p (known_low p (rows_from rows)) g) g test inst.valid.told within more test_is in
+    is-refreshed inst rows placed k low up known lt (low_is ∙ most_low-is p (known_low p (rows_from rows)) g test b sum bound_is sum_is first) up_is small new (new_is ∙ ap (λ l. capped_at l k up) raised_is)

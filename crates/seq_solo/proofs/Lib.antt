@@ -1,0 +1,6 @@
+pub mod KnownLaws
+pub mod ChoiceLaws
+pub mod EventLaws
+pub mod OpenLaws
+pub mod StepLaws
+pub mod FoundLaws

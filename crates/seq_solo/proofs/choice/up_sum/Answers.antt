@@ -1,0 +1,27 @@
+use Rattle.std.proofs.Common.{◌≡◌, ◌≤◌, ◌<◌, ◌∙◌, arith}
+use Rattle.std.proofs.lemmas.List.{get_or_read}
+use Rattle.seq_inst.specs.Instances.{problem_of}
+use Rattle.seq_solo.proofs.ChoiceLaws.{sum-fits}
+use Rattle.seq_solo.proofs.choice.up_sum.Goals as goal
+
+pub overflow_mul-result : goal.overflow_mul-result
+overflow_mul-result c =
+    let p = problem_of c.args.inst.now in
+    let n = c.args.inst.now.costs.ok.0 in
+    let t = c.requires.there in
+    let there : c.args.test < p.tests = omega arith in
+    let cost : c.from.result ≡ p.cost c.args.test = c.from.ensures ∙ get_or_read c.args.inst.now.costs.items c.args.test c.index.result.now there c.index.ensures 0 in
+    let f = sum-fits c.args.inst.now c.args.group.now c.from.result c.args.weight c.args.test c.requires.within there cost c.requires.weight in
+    omega arith
+
+pub overflow_add-result-in-Some-Some : goal.overflow_add-result-in-Some-Some
+overflow_add-result-in-Some-Some c =
+    let p = problem_of c.args.inst.now in
+    let n = c.args.inst.now.costs.ok.0 in
+    let t = c.requires.there in
+    let there : c.args.test < p.tests = omega arith in
+    let cost : c.from.result ≡ p.cost c.args.test = c.from.ensures ∙ get_or_read c.args.inst.now.costs.items c.args.test c.index.result.now there c.index.ensures 0 in
+    let f = sum-fits c.args.inst.now c.args.group.now c.from.result c.args.weight c.args.test c.requires.within there cost c.requires.weight in
+    let a = c.in-Some-Some.ensures.fits in
+    let b = c.in-Some-Some.ensures'.fits in
+    omega arith

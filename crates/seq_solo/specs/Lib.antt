@@ -1,0 +1,6 @@
+pub mod Known
+pub mod Choice
+pub mod Steps
+pub mod Parts
+pub mod Walks
+pub mod Found

@@ -1,0 +1,9 @@
+//! What a search ends with.
+use seq_inst::{Group, Row};
+
+/// The entered groups in the order of entering, and the group that found no room, if there is one.
+#[derive(Drop)]
+pub struct Found {
+    pub rows: Vec<Row>,
+    pub missed: Option<Group>,
+}

@@ -1,0 +1,133 @@
+//! Worked walks, and the outcomes that are made from them.
+
+use crate::solve_alone;
+use seq_finish::finish;
+use seq_inst::{Group, Instance, Verdict, cost_of, root};
+use std::alloc::{AllocError, Global};
+use std::test::Fail;
+
+/// Two faults and a good state; test 0 costs 2 and fails for class 1, test 1 costs 1 and fails for
+/// class 2.
+fn two_faults(alloc: Global) -> Result<Instance, AllocError> {
+    let weights = vec![in alloc; 6, 3, 1]?;
+    let costs = vec![in alloc; 2, 1]?;
+    let passes = vec![in alloc;
+        Group([5, 0, 0, 0, 0, 0, 0, 0]),
+        Group([3, 0, 0, 0, 0, 0, 0, 0]),
+    ]?;
+    Ok(Instance::new(weights, costs, passes))
+}
+
+/// Four faults and a good state of one weight; each fault is seen by a test of its own.
+fn star(alloc: Global) -> Result<Instance, AllocError> {
+    let weights = vec![in alloc; 1, 1, 1, 1, 1]?;
+    let costs = vec![in alloc; 1, 1, 1, 1]?;
+    let passes = vec![in alloc;
+        Group([29, 0, 0, 0, 0, 0, 0, 0]),
+        Group([27, 0, 0, 0, 0, 0, 0, 0]),
+        Group([23, 0, 0, 0, 0, 0, 0, 0]),
+        Group([15, 0, 0, 0, 0, 0, 0, 0]),
+    ]?;
+    Ok(Instance::new(weights, costs, passes))
+}
+
+/// Eight faults of one weight and no good state. Test 0 tells the first four from the last four; each
+/// fault is seen by a test of its own, too.
+fn two_halves(alloc: Global) -> Result<Instance, AllocError> {
+    let weights = vec![in alloc; 1, 1, 1, 1, 1, 1, 1, 1]?;
+    let costs = vec![in alloc; 1, 1, 1, 1, 1, 1, 1, 1, 1]?;
+    let passes = vec![in alloc;
+        Group([15, 0, 0, 0, 0, 0, 0, 0]),
+        Group([254, 0, 0, 0, 0, 0, 0, 0]),
+        Group([253, 0, 0, 0, 0, 0, 0, 0]),
+        Group([251, 0, 0, 0, 0, 0, 0, 0]),
+        Group([247, 0, 0, 0, 0, 0, 0, 0]),
+        Group([239, 0, 0, 0, 0, 0, 0, 0]),
+        Group([223, 0, 0, 0, 0, 0, 0, 0]),
+        Group([191, 0, 0, 0, 0, 0, 0, 0]),
+        Group([127, 0, 0, 0, 0, 0, 0, 0]),
+    ]?;
+    Ok(Instance::new(weights, costs, passes))
+}
+
+/// One class and no test.
+fn one_class(alloc: Global) -> Result<Instance, AllocError> {
+    let weights = vec![in alloc; 6]?;
+    let costs = Vec::new(alloc);
+    let passes = Vec::new(alloc);
+    Ok(Instance::new(weights, costs, passes))
+}
+
+#[test]
+fn two_faults_need_one_group(rt: HostRuntime) -> Result<(), Fail> {
+    let alloc = rt.alloc();
+    let inst = two_faults(alloc)?;
+    let found = solve_alone(alloc, &inst, 4096)?;
+    assert_eq!(rt; found.rows.len(), 1);
+    assert!(rt; found.missed.is_none());
+    let outcome = finish(alloc, &inst, 4096, found.rows, found.missed)?;
+    assert_eq!(rt; outcome.verdict, Verdict::Optimal);
+    assert_eq!(rt; outcome.cost, 27);
+    assert_eq!(rt; cost_of(&inst, &outcome.strategy, &root(&inst)), 27);
+    Ok(())
+}
+
+#[test]
+fn a_star_within_four_groups(rt: HostRuntime) -> Result<(), Fail> {
+    let alloc = rt.alloc();
+    let inst = star(alloc)?;
+    let found = solve_alone(alloc, &inst, 4)?;
+    let outcome = finish(alloc, &inst, 4, found.rows, found.missed)?;
+    assert_eq!(rt; outcome.verdict, Verdict::Bounded);
+    assert_eq!(rt; outcome.cost, 14);
+    assert_eq!(rt; outcome.low, 13);
+    assert!(rt; outcome.missed == Some(Group([15, 0, 0, 0, 0, 0, 0, 0])));
+    assert_eq!(rt; outcome.rows.len(), 4);
+    for row in outcome.rows.iter() {
+        let all = row.group == Group([31, 0, 0, 0, 0, 0, 0, 0]);
+        assert_eq!(rt; row.low, if all { 13 } else { 9 });
+    }
+    Ok(())
+}
+
+#[test]
+fn a_star_within_five_groups(rt: HostRuntime) -> Result<(), Fail> {
+    let alloc = rt.alloc();
+    let inst = star(alloc)?;
+    let found = solve_alone(alloc, &inst, 5)?;
+    assert!(rt; found.missed.is_none());
+    let outcome = finish(alloc, &inst, 5, found.rows, found.missed)?;
+    assert_eq!(rt; outcome.verdict, Verdict::Optimal);
+    assert_eq!(rt; outcome.cost, 14);
+    assert_eq!(rt; outcome.low, 14);
+    assert_eq!(rt; outcome.rows.len(), 5);
+    Ok(())
+}
+
+#[test]
+fn two_halves_within_two_groups(rt: HostRuntime) -> Result<(), Fail> {
+    let alloc = rt.alloc();
+    let inst = two_halves(alloc)?;
+    let found = solve_alone(alloc, &inst, 2)?;
+    let outcome = finish(alloc, &inst, 2, found.rows, found.missed)?;
+    assert_eq!(rt; outcome.verdict, Verdict::Bounded);
+    assert_eq!(rt; outcome.cost, 26);
+    assert_eq!(rt; outcome.low, 25);
+    assert!(rt; outcome.missed == Some(Group([240, 0, 0, 0, 0, 0, 0, 0])));
+    assert_eq!(rt; outcome.rows.len(), 2);
+    assert!(rt; outcome.rows[1].group == Group([15, 0, 0, 0, 0, 0, 0, 0]));
+    assert_eq!(rt; outcome.rows[1].low, 9);
+    Ok(())
+}
+
+#[test]
+fn one_class_needs_no_group(rt: HostRuntime) -> Result<(), Fail> {
+    let alloc = rt.alloc();
+    let inst = one_class(alloc)?;
+    let found = solve_alone(alloc, &inst, 1)?;
+    assert_eq!(rt; found.rows.len(), 0);
+    let outcome = finish(alloc, &inst, 1, found.rows, found.missed)?;
+    assert_eq!(rt; outcome.verdict, Verdict::Optimal);
+    assert_eq!(rt; outcome.cost, 0);
+    Ok(())
+}
