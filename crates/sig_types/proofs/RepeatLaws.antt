@@ -1,12 +1,11 @@
 -- How the names of a list are taken one by one (`AreTaken`), and the names of several lists one after another.
-use Rattle.std.proofs.Common.{◌≡◌, ℕ, suc, ◌+◌, ◌<◌, ◌≤◌, List, [], ◌∷◌, ◌++◌, length, map, get_or, take, drop, refl, sym, ap, ap₂, subst, ◌∙◌, arith, add-one, drop-cons, append_assoc, append-nil}
+use Rattle.std.proofs.Common.{◌≡◌, ℕ, suc, ◌+◌, ◌<◌, ◌≤◌, List, [], ◌∷◌, ◌++◌, length, map, get_or, take, drop, refl, sym, ap, ap₂, subst, ◌∙◌, add-one, drop-cons, append_assoc, append-nil}
 use Rattle.std.proofs.lemmas.List.{drop_all, take_all, map-append}
 use Rattle.std.proofs.Math.Seq.{take-suc}
-use Rattle.sig_types.specs.declared.refusals.Refusal.{Refusal}
 use Rattle.sig_types.specs.declared.refusals.Place.{Place}
 use Rattle.sig_types.specs.declared.refusals.Code.TheVariants.{M07}
 use Rattle.sig_types.specs.declared.refusals.ModelFault.{ModelFault}
-use Rattle.sig_types.specs.Breaches.{Named, named, names_of, each, each_from, breach_if, has, repeats, repeats_after}
+use Rattle.sig_types.specs.Breaches.{Named, named, names_of, each_from, breach_if, has, repeats, repeats_after}
 use Rattle.sig_types.specs.Refused.{TellsFirst}
 use Rattle.sig_types.proofs.VerdictLaws.{none-in_both, tells-left, tells-right}
 

@@ -1,8 +1,8 @@
 -- How a verdict on many breaches is put together: what comes first is refused first, and what has no breach is passed
 -- over. A loop over a list keeps that the breaches of the whole are those of what is left (`AreChecked`).
-use Rattle.std.proofs.Common.{◌≡◌, ℕ, suc, ◌+◌, ◌<◌, ◌≤◌, List, [], ◌∷◌, ◌++◌, length, get_or, drop, Result, Ok, Err, Some, refl, sym, ap, ap₂, subst, ◌∙◌, arith, add-one, drop-cons}
+use Rattle.std.proofs.Common.{◌≡◌, ℕ, suc, ◌+◌, ◌<◌, ◌≤◌, List, [], ◌∷◌, ◌++◌, length, get_or, drop, Result, Ok, Err, Some, sym, ap, ap₂, subst, ◌∙◌, add-one, drop-cons}
 use Rattle.std.proofs.lemmas.List.{drop_all}
-use Rattle.std.specs.Result.{IsErr, IsErrAnd}
+use Rattle.std.specs.Result.{IsErrAnd}
 use Rattle.sig_types.specs.declared.refusals.Refusal.{Refusal}
 use Rattle.sig_types.specs.declared.refusals.ModelFault.{ModelFault}
 use Rattle.sig_types.specs.declared.refusals.ModelFault.TheVariants.{Refused, OutOfMemory}

@@ -1,6 +1,6 @@
 use Rattle.sig_types.specs.Lookups.{place_at}
 use Rattle.sig_types.proofs.VerdictLaws.{handed-on}
-use Rattle.sig_types.proofs.RepeatLaws.{taken-fault, taken-step, taken-end, taken-names}
+use Rattle.sig_types.proofs.RepeatLaws.{taken-fault}
 use Rattle.sig_types.proofs.check.names.take_names.Goals as goal
 
 pub returns-in_err-take_name-clause-verdict : goal.returns-in_err-take_name-clause-verdict

@@ -1,9 +1,7 @@
 use Rattle.std.proofs.Common.{ap, map-id, ◌∙◌}
 use Rattle.sig_types.specs.declared.refusals.ModelFault.TheVariants.{OutOfMemory}
-use Rattle.sig_types.specs.declared.model.Block.{Block}
 use Rattle.sig_types.specs.Breaches.{or_normal}
 use Rattle.sig_types.proofs.VerdictLaws.{handed-on, none-in_both, tells-left, tells-right}
-use Rattle.sig_types.proofs.LookupLaws.{port_set}
 use Rattle.sig_types.proofs.check.index.Index.of.Goals as goal
 
 pub returns-in_err-signals-clause-verdict : goal.returns-in_err-signals-clause-verdict
