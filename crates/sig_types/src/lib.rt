@@ -4,6 +4,7 @@
 //! built yet.
 #![tactic(auto)]
 
+mod check;
 mod list;
 mod model;
 mod name;
@@ -11,6 +12,7 @@ mod numbers;
 mod refusals;
 mod sets;
 mod text;
+mod valid;
 
 pub use list::List;
 pub use model::{Block, End, Functional, Link, Model, Part, Point, Test, Used};
@@ -19,3 +21,4 @@ pub use numbers::{Cost, Good, Weight};
 pub use refusals::{Code, Counted, Key, Kind, ModelFault, Place, Refusal};
 pub use sets::{Modes, Signals};
 pub use text::Text;
+pub use valid::Valid;

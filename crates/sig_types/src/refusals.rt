@@ -1,3 +1,4 @@
+use std::alloc::AllocError;
 use thiserror::Error;
 
 /// Why a text or a model is refused, and where.
@@ -97,4 +98,15 @@ pub enum ModelFault {
     Refused(Refusal),
     #[error("no memory")]
     OutOfMemory,
+}
+
+impl From<AllocError> for ModelFault {
+    ghost use Rattle.std.specs.Prelude.{◌≡◌};
+    ghost use Rattle.sig_types.specs.declared.refusals.ModelFault.TheVariants.{OutOfMemory};
+
+    ghost from_gives = { λ _ fault. fault ≡ OutOfMemory };
+
+    fn from(_fault: AllocError) -> ModelFault {
+        ModelFault::OutOfMemory
+    }
 }
