@@ -1,9 +1,8 @@
 -- The counts of the unfolded model are the sizes and the height of the top block.
-use Rattle.std.proofs.Common.{◌≡◌, ℕ, zero, suc, ◌+◌, ◌-◌, ◌<◌, ◌≤◌, List, [], ◌∷◌, ◌++◌, length, refl, sym, ap, ◌∙◌, arith, length-append, Bool, true, false, min, lit≤}
+use Rattle.std.proofs.Common.{◌≡◌, ℕ, zero, suc, ◌+◌, ◌-◌, ◌<◌, ◌≤◌, List, [], ◌∷◌, ◌++◌, length, refl, sym, ap, ◌∙◌, arith, length-append, Bool, true, false, min, lit≤, inl, inr}
 use Rattle.std.specs.Prelude.{cond, map, nat_lt, nat_eq, ◌&&◌, Option, Some, None}
 use Rattle.std.specs.List.{flat_map}
 use Rattle.std.proofs.lemmas.List.{length-map}
-use Rattle.std.proofs.lemmas.Bool.Decides.{nat_tests}
 use Rattle.sig_types.specs.declared.model.Model.{Model}
 use Rattle.sig_types.specs.declared.model.Block.{Block}
 use Rattle.sig_types.specs.declared.model.Part.{Part}
@@ -12,13 +11,14 @@ use Rattle.sig_types.specs.declared.model.Point.{Point}
 use Rattle.sig_types.specs.declared.model.Test.{Test}
 use Rattle.sig_types.specs.declared.model.Link.{Link}
 use Rattle.sig_types.specs.Breaches.{block_names}
-use Rattle.std.proofs.lemmas.Bool.{ltb-false}
+use Rattle.std.proofs.lemmas.Bool.{ltb-false, lt-ltb, le-ltb, ne_eqb, cases_lt}
 use Rattle.sig_types.specs.declared.refusals.Counted.{Counted}
 use Rattle.sig_types.specs.declared.refusals.Counted.TheVariants.{Depth, Uses, Nodes, Links, Faults, Tests}
 use Rattle.sig_flat.specs.declared.counts.Counts.{Counts}
 use Rattle.sig_flat.specs.Instances.{Path, Instance, LinkItem, TestItem, instances, instances_at, block_named, own_nodes, own_links, own_faults, own_tests, nodes, links, faults, tests, depth, uses, functional_fault, general_fault, greatest, end_path}
-use Rattle.sig_flat.specs.Counts.{Limited, limited, first_over, has_no_state}
+use Rattle.sig_flat.specs.Counts.{Limited, limited, first_over, has_no_state, refusal_after, flat_refusal}
 use Rattle.sig_flat.specs.Limits.{limits_of}
+use Rattle.sig_flat.specs.Layouts.{numbers_of_block}
 use Rattle.sig_flat.specs.Sizes.{size, size_down, in_word, height, height_down}
 use Rattle.sig_flat.specs.Resolved.{block_at}
 use Rattle.sig_flat.specs.Places.{own_names}
@@ -53,16 +53,20 @@ faults-counted signals path at (q ∷ parts) =
     general name None = refl
     general name (Some w) = refl
 
-tests-counted : (signals modes : List (List ℕ)) (path : Path) (at : ℕ) (points : List Point) → length (flat_map (λ (q : Point). map (λ (t : Test). record { point = path ++ q.name ∷ []; name = t.name; cost = t.cost; signals = t.signals; mode = t.mode }) q.tests) points) ≡ length (test_patterns_from signals modes at points)
+abbrev item_of : Path → Point → Test → TestItem
+item_of path q t = record { point = path ++ q.name ∷ []; name = t.name; cost = t.cost; signals = t.signals; mode = t.mode }
+
+tests-counted : (signals modes : List (List ℕ)) (path : Path) (at : ℕ) (points : List Point) → length (flat_map (λ (q : Point). map (item_of path q) q.tests) points) ≡ length (test_patterns_from signals modes at points)
 tests-counted signals modes path at [] = refl
 tests-counted signals modes path at (q ∷ points) =
-    let items = map (λ (t : Test). record { point = path ++ q.name ∷ []; name = t.name; cost = t.cost; signals = t.signals; mode = t.mode }) q.tests in
+    let items : List TestItem = map (item_of path q) q.tests in
     let rest = tests-counted signals modes path (suc at) points in
-    let a = length-map q.tests (λ (t : Test). record { point = path ++ q.name ∷ []; name = t.name; cost = t.cost; signals = t.signals; mode = t.mode }) in
+    let a = length-map q.tests (item_of path q) in
     let b = length-map q.tests (test_pattern signals modes at q.name) in
-    length-append items (flat_map (λ (q : Point). map (λ (t : Test). record { point = path ++ q.name ∷ []; name = t.name; cost = t.cost; signals = t.signals; mode = t.mode }) q.tests) points)
-    ∙ (omega arith)
-    ∙ sym (length-append (map (test_pattern signals modes at q.name) q.tests) (test_patterns_from signals modes (suc at) points))
+    let c = length-append items (flat_map (λ (q : Point). map (item_of path q) q.tests) points) in
+    let d = length-append (map (test_pattern signals modes at q.name) q.tests) (test_patterns_from signals modes (suc at) points) in
+    let sum : length (items ++ flat_map (λ (q : Point). map (item_of path q) q.tests) points) ≡ length (map (test_pattern signals modes at q.name) q.tests ++ test_patterns_from signals modes (suc at) points) = omega arith in
+    sum
 
 pub one-each : {A : Type 0} (xs : List A) → length (flat_map (λ x. x ∷ []) xs) ≡ length xs
 one-each [] = refl
@@ -84,7 +88,7 @@ module _ (model : Model) (known : IsKnown model) where
       ∙ size_down-same (map count model.blocks) (numbers_of model) (earlier model known) (length model.blocks) (suc (top_of model)) (top_of model) top-there (omega arith)
 
   pub instances-counted : length (instances model) ≡ size (map (λ (b : Block). 1) model.blocks) (numbers_of model) (top_of model)
-  instances-counted = sym (one-each (instances model)) ∙ counted (λ i. i ∷ []) (λ b. 1) (λ i. refl)
+  instances-counted = sym (one-each (instances model)) ∙ counted {A = Instance} (λ (i : Instance). i ∷ []) (λ b. 1) (λ i. refl)
 
   pub links-counted : length (links model) ≡ size (map (λ (b : Block). length b.links) model.blocks) (numbers_of model) (top_of model)
   links-counted = counted own_links (λ b. length b.links) (λ i. length-map i.block.links (λ (l : Link). record { from = end_path i.path l.from; to = end_path i.path l.to; modes = l.modes }))
@@ -105,6 +109,7 @@ module _ (model : Model) (known : IsKnown model) where
   depth-is =
       ap (λ is. greatest (map (λ (i : Instance). length i.path) is)) top-instances
       ∙ deepest-instances model.blocks (λ b. 1) (map (λ (b : Block). 1) model.blocks) (numbers_of model) (resolved model known (λ b. 1)) (earlier model known) (length model.blocks) [] (top_of model) top-there top-there
+      ∙ (let z : length {A = List ℕ} [] + height_down (numbers_of model) (length model.blocks) (top_of model) ≡ height_down (numbers_of model) (length model.blocks) (top_of model) = omega arith in z)
       ∙ height_down-same (numbers_of model) (earlier model known) (length model.blocks) (suc (top_of model)) (top_of model) top-there (omega arith)
 
   -- the top block is an instance itself
@@ -117,10 +122,16 @@ module _ (model : Model) (known : IsKnown model) where
 
 -- a limit is passed by a count exactly where it is by as much of it as a word has
 over : (limit n : ℕ) → limit ≤ 32768 → nat_lt limit (in_word n) ≡ nat_lt limit n
-over limit n le = grind (arith, nat_tests)
+over limit n le = elim (cases_lt limit n) [
+  | inl lt ↦ (let h : limit < in_word n = omega arith in lt-ltb limit (in_word n) h ∙ sym (lt-ltb limit n lt))
+  | inr ge ↦ (let h : in_word n ≤ limit = omega arith in le-ltb limit (in_word n) h ∙ sym (le-ltb limit n ge))
+]
 
 over-less : (limit n : ℕ) → limit ≤ 32768 → nat_lt limit (in_word (n + 1) - 1) ≡ nat_lt limit n
-over-less limit n le = grind (arith, nat_tests)
+over-less limit n le = elim (cases_lt limit n) [
+  | inl lt ↦ (let h : limit < in_word (n + 1) - 1 = omega arith in lt-ltb limit (in_word (n + 1) - 1) h ∙ sym (lt-ltb limit n lt))
+  | inr ge ↦ (let h : in_word (n + 1) - 1 ≤ limit = omega arith in le-ltb limit (in_word (n + 1) - 1) h ∙ sym (le-ltb limit n ge))
+]
 
 pub same-over : (model : Model) (counts : Counts) → CountsAre model counts → first_over (limits_of counts) ≡ first_over (limited model)
 same-over model counts c =
@@ -141,7 +152,14 @@ pub same-state : (model : Model) (counts : Counts) → CountsAre model counts �
 same-state model counts c = ap (λ b. nat_eq model.good 0 && b) (ap (λ n. nat_eq n 0) c.faults ∙ none (length (faults model)))
   where
     none : (n : ℕ) → nat_eq (in_word n) 0 ≡ nat_eq n 0
-    none n = grind (arith, nat_tests)
+    none zero = refl
+    none (suc n) = ne_eqb (in_word (suc n)) 0 (λ e. omega arith) ∙ sym (ne_eqb (suc n) 0 (λ e. omega arith))
+
+pub refusal-is : (model : Model) (counts : Counts) → CountsAre model counts → refusal_after (first_over (limits_of counts)) (nat_eq model.good 0 && nat_eq counts.faults 0) ≡ flat_refusal model
+refusal-is model counts c = two (same-over model counts c) (same-state model counts c)
+  where
+    two : {o o' : Option Counted} {b b' : Bool} → o ≡ o' → b ≡ b' → refusal_after o b ≡ refusal_after o' b'
+    two p q = cc
 
 -- a model that is not refused is within its limits
 pub record IsWithin (model : Model) : Type 0 where
@@ -170,3 +188,11 @@ within model e =
     passed : (b : Bool) (counted : Counted) (rest : Option Counted) → cond b (Some counted) rest ≡ None → (b ≡ false) × (rest ≡ None)
     passed true counted rest e = absurd (let f : ⊥ = cc in f)
     passed false counted rest e = (refl, e)
+
+-- the top block among the rows of numbers
+pub top-in-numbers : (model : Model) → IsKnown model → (top : ℕ) (rows : List (List ℕ)) → top ≡ top_of model → rows ≡ numbers_of model → top < length rows
+top-in-numbers model known top rows e r =
+    let there = top-there model known in
+    let long = length-map model.blocks (numbers_of_block (block_names model)) in
+    let same = ap length r in
+    omega arith

@@ -44,39 +44,47 @@ NodesAt model path block start = (at : ℕ) (name : List ℕ) → slice_get (own
 
 module _ (model : Model) where
   -- nodes
-  pub nodes-copied : (path : Path) (block : Block) (p : Placed) → p.prefix ≡ prefix_text path → AllZip (IsNodeOf model) (own_nodes (record { path = path; block = block })) (map (node_copy p) (node_patterns model.signals block))
+  abbrev ports_copied : Placed → Block → List Node
+  ports_copied p block = map (λ n. node_copy p (plain_pattern Port n)) block.ports
+
+  abbrev switches_copied : Placed → Block → List Node
+  switches_copied p block = map (λ n. node_copy p (plain_pattern Switch n)) block.switches
+
+  abbrev parts_copied : Placed → Block → List Node
+  parts_copied p block = map (λ (q : Part). node_copy p (part_pattern model.signals q)) block.parts
+
+  abbrev points_copied : Placed → Block → List Node
+  points_copied p block = map (λ (q : Point). node_copy p (point_pattern q)) block.points
+
+  copies-apart : (p : Placed) (block : Block) → map (node_copy p) (node_patterns model.signals block) ≡ ports_copied p block ++ switches_copied p block ++ parts_copied p block ++ points_copied p block
   unfolding node_patterns
+  copies-apart p block = simp (map-append, map-map)
+
+  pub nodes-copied : (path : Path) (block : Block) (p : Placed) → p.prefix ≡ prefix_text path → AllZip (IsNodeOf model) (own_nodes (record { path = path; block = block })) (map (node_copy p) (node_patterns model.signals block))
   nodes-copied path block p e =
-      subst (AllZip (IsNodeOf model) (own_nodes (record { path = path; block = block }))) (sym apart)
-      (zip-append (IsNodeOf model) (map (plain_node path Port) block.ports ++ map (plain_node path Switch) block.switches ++ map (λ (q : Part). record { path = path ++ q.name ∷ []; kind = PartNode; stops = q.stops }) block.parts) (map (λ (q : Point). plain_node path PointNode q.name) block.points) (a ++ b ++ c) d
-      (zip-append (IsNodeOf model) (map (plain_node path Port) block.ports ++ map (plain_node path Switch) block.switches) (map (λ (q : Part). record { path = path ++ q.name ∷ []; kind = PartNode; stops = q.stops }) block.parts) (a ++ b) c
-      (zip-append (IsNodeOf model) (map (plain_node path Port) block.ports) (map (plain_node path Switch) block.switches) a b
-      (zip-maps (IsNodeOf model) (plain_node path Port) (λ n. node_copy p (plain_pattern Port n)) block.ports (λ n i. plain Port n))
-      (zip-maps (IsNodeOf model) (plain_node path Switch) (λ n. node_copy p (plain_pattern Switch n)) block.switches (λ n i. plain Switch n)))
-      (zip-maps (IsNodeOf model) (λ (q : Part). record { path = path ++ q.name ∷ []; kind = PartNode; stops = q.stops }) (λ (q : Part). node_copy p (part_pattern model.signals q)) block.parts
-      (λ q i. record { path = named q.name; kind = refl; stops = word-is-set model.signals q.stops })))
-      (zip-maps (IsNodeOf model) (λ (q : Point). plain_node path PointNode q.name) (λ (q : Point). node_copy p (point_pattern q)) block.points (λ q i. plain PointNode q.name)))
+      let ports = map (plain_node path Port) block.ports in
+      let switches = map (plain_node path Switch) block.switches in
+      let parts = map (λ (q : Part). record { path = path ++ q.name ∷ []; kind = PartNode; stops = q.stops }) block.parts in
+      let points = map (λ (q : Point). plain_node path PointNode q.name) block.points in
+      let a = ports_copied p block in
+      let b = switches_copied p block in
+      let c = parts_copied p block in
+      let d = points_copied p block in
+      let za : AllZip (IsNodeOf model) ports a = zip-maps (IsNodeOf model) (plain_node path Port) (λ n. node_copy p (plain_pattern Port n)) block.ports (λ n i. plain Port n) in
+      let zb : AllZip (IsNodeOf model) switches b = zip-maps (IsNodeOf model) (plain_node path Switch) (λ n. node_copy p (plain_pattern Switch n)) block.switches (λ n i. plain Switch n) in
+      let zc : AllZip (IsNodeOf model) parts c =
+      zip-maps (IsNodeOf model) (λ (q : Part). record { path = path ++ q.name ∷ []; kind = PartNode; stops = q.stops }) (λ (q : Part). node_copy p (part_pattern model.signals q)) block.parts
+      (λ q i. record { path = named q.name; kind = refl; stops = word-is-set model.signals q.stops }) in
+      let zd : AllZip (IsNodeOf model) points d = zip-maps (IsNodeOf model) (λ (q : Point). plain_node path PointNode q.name) (λ (q : Point). node_copy p (point_pattern q)) block.points (λ q i. plain PointNode q.name) in
+      subst (AllZip (IsNodeOf model) (ports ++ switches ++ parts ++ points)) (sym (copies-apart p block))
+      (zip-append (IsNodeOf model) (ports ++ switches ++ parts) points (a ++ b ++ c) d
+      (zip-append (IsNodeOf model) (ports ++ switches) parts (a ++ b) c (zip-append (IsNodeOf model) ports switches a b za zb) zc) zd)
     where
-      abbrev a : List Node
-      a = map (λ n. node_copy p (plain_pattern Port n)) block.ports
-
-      abbrev b : List Node
-      b = map (λ n. node_copy p (plain_pattern Switch n)) block.switches
-
-      abbrev c : List Node
-      c = map (λ (q : Part). node_copy p (part_pattern model.signals q)) block.parts
-
-      abbrev d : List Node
-      d = map (λ (q : Point). node_copy p (point_pattern q)) block.points
-
       named : (name : List ℕ) → p.prefix ++ name ≡ path_text (path ++ name ∷ [])
       named name = ap (λ l. l ++ name) e ∙ sym (path-last path name)
 
       plain : (kind : NodeKind) (name : List ℕ) → IsNodeOf model (plain_node path kind name) (node_copy p (plain_pattern kind name))
       plain kind name = record { path = named name; kind = refl; stops = nothing-is-set model.signals }
-
-      apart : map (node_copy p) (map (plain_pattern Port) block.ports ++ map (plain_pattern Switch) block.switches ++ map (part_pattern model.signals) block.parts ++ map point_pattern block.points) ≡ a ++ b ++ c ++ d
-      apart = simp (map-append, map-map)
 
   -- faults
   faults-from : (path : Path) (p : Placed) (at : ℕ) (parts : List Part) → p.prefix ≡ prefix_text path → ((j : ℕ) (name : List ℕ) → slice_get (map (λ (q : Part). q.name) parts) j ≡ Some name → IsPlace model (path ++ name ∷ []) (p.start + (at + j)))

@@ -58,7 +58,7 @@ pub inner-at : (sizes : List ℕ) (size_of : ℕ → ℕ) (t t' : ℕ) (us : Lis
     → get_or (inners_from sizes t' us js) nth no_inner ≡ record { name = (get_or us nth d).name; block = get_or js nth 0; offset = in_word (t + sum_over size_of (take nth js)) }
 inner-at sizes size_of t t' [] js nth d e long sized lt = absurd (let f : ⊥ = omega arith in f)
 inner-at sizes size_of t t' (u ∷ us) [] nth d e long sized lt = absurd (let f : ⊥ = omega arith in f)
-inner-at sizes size_of t t' (u ∷ us) (j ∷ js) zero d e long sized lt = ap (λ (n : ℕ). record { name = u.name; block = j; offset = n }) (e ∙ omega arith)
+inner-at sizes size_of t t' (u ∷ us) (j ∷ js) zero d e long sized lt = let q : t' ≡ in_word (t + 0) = omega arith in ap (λ (n : ℕ). record { name = u.name; block = j; offset = n }) q
 inner-at sizes size_of t t' (u ∷ us) (j ∷ js) (suc nth) d e long sized lt =
     let here = sized j (0, omega arith, refl) in
     inner-at sizes size_of (t + size_of j) (in_word (t' + get_or sizes j 0)) us js nth d (omega arith) (omega arith) (λ i (k, lt, s). sized i (suc k, omega arith, s)) (omega arith)

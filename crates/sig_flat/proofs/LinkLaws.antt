@@ -20,7 +20,8 @@ use Rattle.sig_flat.specs.Places.{own_names}
 use Rattle.sig_flat.specs.Flats.{alive_modes, IsPlace, IsLinkOf}
 use Rattle.sig_flat.specs.Words.{place_among, word_of}
 use Rattle.sig_flat.specs.Known.{use_names, EndIsKnown, IsKnown}
-use Rattle.sig_flat.specs.Layouts.{inners_from, no_inner, port_place, end_place, link_pattern}
+use Rattle.sig_flat.specs.Layouts.{numbers_of_block, inners_from, no_inner, port_place, end_place, link_pattern, NamesUse, LinkNamesUses}
+use Rattle.sig_types.specs.Breaches.{block_names}
 use Rattle.sig_flat.specs.Placed.{link_copy, NestEarlier}
 use Rattle.sig_flat.specs.Surveys.{numbers_of, own_of}
 use Rattle.sig_flat.proofs.WordLaws.{word-is-set}
@@ -47,7 +48,42 @@ module _ (model : Model) (known : IsKnown model) where
   pub uses-long : (k : ℕ) → k < length model.blocks → length (block_at model.blocks k).uses ≡ length (slice_index_or (numbers_of model) k [])
   uses-long k lt = zip-length (IsNumberOf model.blocks) (block_at model.blocks k).uses (slice_index_or (numbers_of model) k []) ((resolved model known (λ b. 0)).uses k lt)
 
+  -- each block that is used is one of the blocks
+  pub numbers-known : (k n : ℕ) → Contains (slice_index_or (numbers_of model) k []) n → n < length model.blocks
+  numbers-known k n i = elim (cases_lt k (length model.blocks)) [
+    | inl lt ↦ (let e = earlier model known k n i in omega arith)
+    | inr ge ↦ none (subst (λ l. Contains l n) (at-end (numbers_of model) k [] (let long = length-map model.blocks (numbers_of_block (block_names model)) in omega arith)) i)
+  ]
+    where
+      none : Contains [] n → n < length model.blocks
+      none (m, lt, e) = absurd (let f : ⊥ = omega arith in f)
+
+  -- a link's ends with ports name uses
+  names-use : (k : ℕ) → (first : List ℕ) (second : Option (List ℕ)) → EndIsKnown model.blocks (block_at model.blocks k) first second → NamesUse (use_names (block_at model.blocks k)) first second
+  names-use k first None h = tt
+  names-use k first (Some port) h = h.0
+
+  pub links-name-uses : (k : ℕ) (link : Link) → k < length model.blocks → Contains (block_at model.blocks k).links link → LinkNamesUses (use_names (block_at model.blocks k)) link
+  links-name-uses k link lt i = record {
+    from = names-use k link.from.first link.from.second ((known.block k lt).from link i);
+    to = names-use k link.to.first link.to.second ((known.block k lt).to link i);
+  }
+
   module _ (sizes : List ℕ) (sized : (k : ℕ) → k < length model.blocks → get_or sizes k 0 ≡ in_word (size (own_of model) (numbers_of model) k)) (inners : List (List Inner)) (long : length inners ≡ length model.blocks) (nested : (k : ℕ) → k < length model.blocks → get_or inners k [] ≡ inners_from sizes (length (own_names (block_at model.blocks k))) (block_at model.blocks k).uses (get_or (numbers_of model) k [])) where
+    -- an instance inside is of one of the blocks
+    pub inner-known : (k : ℕ) (inner : Inner) → Contains (get_or inners k []) inner → inner.block < length model.blocks
+    inner-known k inner i = elim (cases_lt k (length model.blocks)) [
+      | inl lt ↦
+          numbers-known k inner.block (inner-of sizes (length (own_names (block_at model.blocks k))) (block_at model.blocks k).uses (get_or (numbers_of model) k []) inner (subst (λ (l : List Inner). Contains l inner) (nested k lt) i))
+      | inr ge ↦ none (subst (λ (l : List Inner). Contains l inner) (at-end inners k [] (omega arith)) i)
+    ]
+      where
+        none : Contains [] inner → inner.block < length model.blocks
+        none (n, lt, e) = absurd (let f : ⊥ = omega arith in f)
+
+    pub inside-long : (k : ℕ) → k < length model.blocks → length (get_or inners k []) ≡ length (block_at model.blocks k).uses
+    inside-long k lt = ap length (nested k lt) ∙ inners-long sizes (length (own_names (block_at model.blocks k))) (block_at model.blocks k).uses (get_or (numbers_of model) k []) (uses-long k lt)
+
     pub nest-earlier : NestEarlier inners
     nest-earlier k inner i = elim (cases_lt k (length model.blocks)) [
       | inl lt ↦
@@ -85,22 +121,22 @@ module _ (model : Model) (known : IsKnown model) where
         held : (a b c : ℕ) → a + (b + c) ≤ 4096 → in_word (in_word (a + b) + c) ≡ a + (b + c)
         held a b c l = omega arith
 
+    abbrev pattern_in : ℕ → Link → LinkPattern
+    pattern_in k l = link_pattern model.modes (own_names (block_at model.blocks k)) (use_names (block_at model.blocks k)) (get_or inners k []) (map own_names model.blocks) l
+
     -- the links of an instance
     pub links-copied : (i : Instance) (p : Placed) → IsPlaced model.blocks (numbers_of model) (own_of model) (map path_of (nodes model)) i p → length (nodes model) ≤ 4096
         → AllZip (IsLinkOf model) (own_links i) (map (link_copy p) (map (link_pattern model.modes (own_names (block_at model.blocks p.block)) (use_names (block_at model.blocks p.block)) (get_or inners p.block []) (map own_names model.blocks)) (block_at model.blocks p.block).links))
     links-copied i p ip few =
-        subst (λ (b : Block). AllZip (IsLinkOf model) (own_links (record { path = i.path; block = b })) (map (link_copy p) (map pattern (block_at model.blocks p.block).links))) (sym ip.block)
-        (subst (AllZip (IsLinkOf model) (own_links (record { path = i.path; block = block_at model.blocks p.block }))) (sym (map-map (link_copy p) pattern (block_at model.blocks p.block).links))
-        (zip-maps (IsLinkOf model) (λ (l : Link). record { from = end_path i.path l.from; to = end_path i.path l.to; modes = l.modes }) (λ l. link_copy p (pattern l)) (block_at model.blocks p.block).links
+        subst (λ (b : Block). AllZip (IsLinkOf model) (own_links (record { path = i.path; block = b })) (map (link_copy p) (map (pattern_in p.block) (block_at model.blocks p.block).links))) (sym ip.block)
+        (subst (AllZip (IsLinkOf model) (own_links (record { path = i.path; block = block_at model.blocks p.block }))) (sym (map-map (link_copy p) (pattern_in p.block) (block_at model.blocks p.block).links))
+        (zip-maps (IsLinkOf model) (λ (l : Link). record { from = end_path i.path l.from; to = end_path i.path l.to; modes = l.modes }) (λ l. link_copy p (pattern_in p.block l)) (block_at model.blocks p.block).links
         (λ l there. record {
           from = placed l.from ((known.block p.block ip.there).from l there);
           to = placed l.to ((known.block p.block ip.there).to l there);
           modes = word-is-set model.modes (alive_modes model.modes l.modes);
         })))
       where
-        pattern : Link → LinkPattern
-        pattern l = link_pattern model.modes (own_names (block_at model.blocks p.block)) (use_names (block_at model.blocks p.block)) (get_or inners p.block []) (map own_names model.blocks) l
-
         placed : (e : End) → EndIsKnown model.blocks (block_at model.blocks p.block) e.first e.second
             → IsPlace model (end_path i.path e) (p.start + end_place (own_names (block_at model.blocks p.block)) (use_names (block_at model.blocks p.block)) (get_or inners p.block []) (map own_names model.blocks) e.first e.second)
         placed e h =

@@ -16,7 +16,10 @@ use Rattle.sig_flat.specs.Sizes.{in_word, size}
 use Rattle.sig_flat.specs.Places.{own_names}
 use Rattle.sig_flat.specs.Words.{place_among}
 use Rattle.sig_flat.specs.Patterns.{pattern_of}
-use Rattle.sig_flat.specs.Layouts.{numbers_of_block}
+use Rattle.sig_flat.specs.declared.inner.Inner.{Inner}
+use Rattle.sig_flat.specs.Resolved.{block_at}
+use Rattle.sig_flat.specs.Known.{use_names}
+use Rattle.sig_flat.specs.Layouts.{numbers_of_block, inners_from, link_pattern}
 
 abbrev pub numbers_of : Model → List (List ℕ)
 numbers_of model = map (numbers_of_block (block_names model)) model.blocks
@@ -59,3 +62,13 @@ pub record IsPlacing (model : Model) (placed : List Placed) (joined : List (List
   pub links : AllZip (IsLinkOf model) (links model) (flat_map (link_copies joined) placed)
   pub faults : AllZip (IsFaultOf model) (faults model) (flat_map (fault_copies (patterns_of_model model)) placed)
   pub tests : AllZip (IsTestOf model) (tests model) (flat_map (test_copies (patterns_of_model model)) placed)
+
+-- for each block the instances inside an instance of it
+pub record AreInners (model : Model) (sizes : List ℕ) (inners : List (List Inner)) : Type 0 where
+  pub long : length inners ≡ length model.blocks
+  pub nested : (k : ℕ) → k < length model.blocks → slice_index_or inners k [] ≡ inners_from sizes (length (own_names (block_at model.blocks k))) (block_at model.blocks k).uses (slice_index_or (numbers_of model) k [])
+
+-- for each block its links
+pub record AreLinks (model : Model) (inners : List (List Inner)) (joined : List (List LinkPattern)) : Type 0 where
+  pub long : length joined ≡ length model.blocks
+  pub each : (k : ℕ) → k < length model.blocks → slice_index_or joined k [] ≡ map (link_pattern model.modes (own_names (block_at model.blocks k)) (use_names (block_at model.blocks k)) (slice_index_or inners k []) (map own_names model.blocks)) (block_at model.blocks k).links

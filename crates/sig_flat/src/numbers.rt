@@ -8,7 +8,7 @@ use sig_types::{Block, List, Name, Used};
 use std::alloc::{AllocError, Global};
 
 /// The names of the blocks.
-pub fn block_names(alloc: Global, blocks: &[Block]) -> Result<List<Name>, AllocError>
+pub fn names_of_blocks(alloc: Global, blocks: &[Block]) -> Result<List<Name>, AllocError>
     ensures { IfOk result (λ names. names ≡ map (λ block. block.name) blocks.now) }
 {
     let mut names = List::new(alloc);

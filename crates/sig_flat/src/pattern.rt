@@ -7,7 +7,7 @@ ghost use Rattle.sig_flat.specs.Patterns.{plain_pattern, part_pattern, point_pat
 use crate::flat::NodeKind;
 use crate::places::Places;
 use crate::sets::signals_of;
-use sig_types::{Block, Cost, Functional, List, Name, Part, Point, Signals, Test, Weight};
+use sig_types::{Block, Cost, List, Name, Part, Point, Signals, Test, Weight};
 use std::alloc::{AllocError, Global};
 
 #[derive(Clone, Copy, Debug)]
@@ -110,16 +110,15 @@ fn add_functional(
     faults: &mut List<FaultPattern>,
     signals: &Places,
     at: usize,
-    part: &Name,
-    functional: &Option<Functional>,
+    part: &Part,
 ) -> Result<(), AllocError>
     requires { length signals.now ≤ 64 }
-    ensures { OnOk result (faults.new ≡ faults.old ++ functional_patterns signals.now at part.now functional.now) }
+    ensures { OnOk result (faults.new ≡ faults.old ++ functional_patterns signals.now at part.now.name part.now.functional) }
 {
-    if let Some(fault) = functional {
+    if let Some(fault) = &part.functional {
         faults.push(FaultPattern {
             at,
-            part: *part,
+            part: part.name,
             general: false,
             signals: signals_of(signals, fault.signals.as_slice()),
             weight: fault.weight,
@@ -128,18 +127,13 @@ fn add_functional(
     Ok(())
 }
 
-fn add_general(
-    faults: &mut List<FaultPattern>,
-    at: usize,
-    part: &Name,
-    general: &Option<Weight>,
-) -> Result<(), AllocError>
-    ensures { OnOk result (faults.new ≡ faults.old ++ general_patterns at part.now general.now) }
+fn add_general(faults: &mut List<FaultPattern>, at: usize, part: &Part) -> Result<(), AllocError>
+    ensures { OnOk result (faults.new ≡ faults.old ++ general_patterns at part.now.name part.now.general) }
 {
-    if let Some(weight) = general {
+    if let Some(weight) = &part.general {
         faults.push(FaultPattern {
             at,
-            part: *part,
+            part: part.name,
             general: true,
             signals: Signals(0),
             weight: *weight,
@@ -163,14 +157,8 @@ fn faults_of(
     let first = nodes - block.points.len() - block.parts.len();
     let mut faults = List::new(alloc);
     for (k, part) in block.parts.as_slice().iter().enumerate() {
-        add_functional(
-            &mut faults,
-            signals,
-            first + k,
-            &part.name,
-            &part.functional,
-        )?;
-        add_general(&mut faults, first + k, &part.name, &part.general)?;
+        add_functional(&mut faults, signals, first + k, part)?;
+        add_general(&mut faults, first + k, part)?;
     }
     Ok(faults)
 }

@@ -1,14 +1,15 @@
 //! What is found out about a model before anything is unfolded: the patterns of its blocks, which block
 //! each use has, how many nodes each block has with all its uses, and how much the whole would have.
-ghost use Rattle.std.specs.Prelude.{◌≡◌, ◌+◌, ◌<◌, map, length, IfOk};
+ghost use Rattle.std.specs.Prelude.{◌≡◌, ◌+◌, ◌<◌, map, length, ℕ, slice_index, IfOk};
 ghost use Rattle.sig_flat.specs.Instances.{depth, uses, nodes, links, faults, tests};
-ghost use Rattle.sig_flat.specs.Sizes.{UseEarlier, in_word, size};
+ghost use Rattle.sig_flat.specs.Sizes.{UseEarlier, in_word, size, height};
 ghost use Rattle.sig_flat.specs.Known.{IsKnown};
-ghost use Rattle.sig_flat.specs.Surveys.{numbers_of, top_of, IsSurvey, CountsAre};
+ghost use Rattle.sig_flat.specs.Surveys.{numbers_of, top_of, own_of, patterns_of_model, IsSurvey, CountsAre};
+ghost use Rattle.sig_types.specs.Breaches.{block_names};
 
 use crate::counts::Counts;
 use crate::heights::heights_of;
-use crate::numbers::{block_names, numbers_of_blocks};
+use crate::numbers::{names_of_blocks, numbers_of_blocks};
 use crate::pattern::{Pattern, patterns_of};
 use crate::places::Places;
 use crate::sizes::sizes_of;
@@ -35,6 +36,16 @@ fn size_at(alloc: Global, own: &[u64], numbers: &[List<u32>], top: u32) -> Resul
 {
     let sizes = sizes_of(alloc, own, numbers)?;
     Ok(sizes[top as usize])
+}
+
+/// The height of the top block.
+fn height_at(alloc: Global, numbers: &[List<u32>], top: u32) -> Result<u64, AllocError>
+    requires earlier { UseEarlier numbers.now }
+    requires top { top < length numbers.now }
+    ensures { IfOk result (λ n. n ≡ in_word (height numbers.now top)) }
+{
+    let heights = heights_of(alloc, numbers)?;
+    Ok(heights[top as usize])
 }
 
 fn own_nodes(alloc: Global, patterns: &[Pattern]) -> Result<Vec<u64>, AllocError>
@@ -95,8 +106,8 @@ fn depth_in(alloc: Global, model: &Model, survey: &Survey) -> Result<u64, AllocE
     ensures { IfOk result (λ n. n ≡ in_word (depth model.now)) }
 {
     let numbers = survey.numbers.as_slice();
-    let heights = heights_of(alloc, numbers)?;
-    Ok(heights[survey.top as usize])
+    let count = height_at(alloc, numbers, survey.top)?;
+    Ok(count)
 }
 
 /// How many instances there are, the top block among them.
@@ -112,12 +123,21 @@ fn instances_in(alloc: Global, model: &Model, survey: &Survey) -> Result<u64, Al
     Ok(count)
 }
 
+fn count_at(sizes: &[u64], top: u32) -> u64
+    requires { top < length sizes.now }
+    ensures { result ≡ slice_index sizes.now top }
+{
+    sizes[top as usize]
+}
+
 fn nodes_in(model: &Model, survey: &Survey) -> u64
     requires known { IsKnown model.now }
     requires survey { IsSurvey model.now survey.now }
     ensures { result ≡ in_word (length (nodes model.now)) }
 {
-    survey.sizes[survey.top as usize]
+    let sizes = survey.sizes.as_slice();
+    let count = count_at(sizes, survey.top);
+    count
 }
 
 fn links_in(alloc: Global, model: &Model, survey: &Survey) -> Result<u64, AllocError>
@@ -178,15 +198,43 @@ pub fn counts_of(alloc: Global, model: &Model, survey: &Survey) -> Result<Counts
     })
 }
 
-/// The number of the block that each use has, and of the top block.
-fn numbers_of_model(alloc: Global, model: &Model) -> Result<(Vec<List<u32>>, u32), AllocError>
-    requires { IsKnown model.now }
-    ensures { IfOk result (λ n. (n.0.items ≡ numbers_of model.now) × (n.1 ≡ top_of model.now)) }
+/// The places of the blocks by name.
+fn places_in(alloc: Global, model: &Model) -> Result<Places, AllocError>
+    ensures { IfOk result (λ names. names ≡ block_names model.now) }
 {
-    let names = Places::of(alloc, &block_names(alloc, model.blocks.as_slice())?)?;
-    let numbers = numbers_of_blocks(alloc, &names, model.blocks.as_slice())?;
-    let top = names.place_of(&model.top) as u32;
-    Ok((numbers, top))
+    let blocks = model.blocks.as_slice();
+    let names = names_of_blocks(alloc, blocks)?;
+    let places = Places::of(alloc, &names)?;
+    Ok(places)
+}
+
+/// The number of the top block.
+fn top_in(names: &Places, model: &Model) -> u32
+    requires known { IsKnown model.now }
+    requires names { names.now ≡ block_names model.now }
+    ensures { result ≡ top_of model.now }
+{
+    let place = names.place_of(&model.top);
+    place as u32
+}
+
+/// For each block how many nodes it has with all its uses.
+fn sizes_in(
+    alloc: Global,
+    model: &Model,
+    patterns: &[Pattern],
+    numbers: &[List<u32>],
+) -> Result<Vec<u64>, AllocError>
+    requires known { IsKnown model.now }
+    requires patterns { patterns.now ≡ patterns_of_model model.now }
+    requires numbers { numbers.now ≡ numbers_of model.now }
+    ensures long { IfOk result (λ sizes. length sizes.items ≡ length model.now.blocks) }
+    ensures sizes { IfOk result (λ sizes. (k : ℕ) → k < length model.now.blocks → slice_index sizes.items k ≡ in_word (size (own_of model.now) (numbers_of model.now) k)) }
+{
+    let own = own_nodes(alloc, patterns)?;
+    let counts = own.as_slice();
+    let sizes = sizes_of(alloc, counts, numbers)?;
+    Ok(sizes)
 }
 
 /// The survey of a model.
@@ -196,10 +244,14 @@ pub fn survey_of(alloc: Global, model: &Model) -> Result<Survey, AllocError>
 {
     let signals = Places::of(alloc, &model.signals)?;
     let modes = Places::of(alloc, &model.modes)?;
-    let (numbers, top) = numbers_of_model(alloc, model)?;
-    let patterns = patterns_of(alloc, &signals, &modes, model.blocks.as_slice())?;
-    let own = own_nodes(alloc, patterns.as_slice())?;
-    let sizes = sizes_of(alloc, own.as_slice(), numbers.as_slice())?;
+    let names = places_in(alloc, model)?;
+    let blocks = model.blocks.as_slice();
+    let numbers = numbers_of_blocks(alloc, &names, blocks)?;
+    let patterns = patterns_of(alloc, &signals, &modes, blocks)?;
+    let made = patterns.as_slice();
+    let found = numbers.as_slice();
+    let sizes = sizes_in(alloc, model, made, found)?;
+    let top = top_in(&names, model);
     Ok(Survey {
         modes,
         patterns,

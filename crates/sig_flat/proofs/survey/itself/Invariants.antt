@@ -6,4 +6,4 @@ use Rattle.sig_flat.specs.Layouts.{inners_from, link_pattern}
 use Rattle.sig_flat.proofs.survey.itself.Given as goal
 
 abbrev pub invariant-loop-block : goal.invariant-loop-block
-invariant-loop-block l = l.own.items ≡ map (λ block. 1) (take l.block-index l.blocks)
+invariant-loop-block l = l.own.items ≡ map (λ block. 1) (take l._block-index l.blocks)

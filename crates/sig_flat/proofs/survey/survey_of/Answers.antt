@@ -1,10 +1,28 @@
-use Rattle.std.proofs.Common.{◌≡◌, ◌<◌, ℕ, List, [], length, map, ap, sym, ◌∙◌, subst, arith}
-use Rattle.sig_flat.specs.Sizes.{UseEarlier}
-use Rattle.sig_flat.proofs.KnownLaws.{earlier}
+use Rattle.std.proofs.Common.{◌≡◌, ◌<◌, ◌≤◌, ℕ, List, length, map, ap, sym, ◌∙◌, subst, arith}
+use Rattle.std.proofs.lemmas.List.{length-map}
+use Rattle.sig_types.specs.declared.model.Block.{Block}
+use Rattle.sig_types.specs.Breaches.{block_names}
+use Rattle.sig_flat.specs.Patterns.{pattern_of}
+use Rattle.sig_flat.specs.Layouts.{numbers_of_block}
+use Rattle.sig_flat.specs.Surveys.{numbers_of, patterns_of_model}
 use Rattle.sig_flat.proofs.survey.survey_of.Goals as goal
 
-pub sizes_of-sizes-requires-clause-earlier : goal.sizes_of-sizes-requires-clause-earlier
-sizes_of-sizes-requires-clause-earlier c = ?
+pub sizes_in-requires-clause-patterns : goal.sizes_in-requires-clause-patterns
+sizes_in-requires-clause-patterns c =
+    c.as_slice-made.ensures.value ∙ c.in_ok-patterns.ensures ∙ ap (λ l. map (pattern_of l c.in_ok-modes.modes) c.as_slice-blocks.result.now) c.in_ok-signals.ensures
+    ∙ ap (λ l. map (pattern_of c.args.model.now.signals l) c.as_slice-blocks.result.now) c.in_ok-modes.ensures ∙ ap (map (pattern_of c.args.model.now.signals c.args.model.now.modes)) c.as_slice-blocks.ensures
+
+pub sizes_in-requires-clause-numbers : goal.sizes_in-requires-clause-numbers
+sizes_in-requires-clause-numbers c =
+    c.as_slice-found.ensures.value ∙ c.in_ok-numbers.ensures ∙ ap (λ l. map (numbers_of_block l) c.as_slice-blocks.result.now) c.in_ok-names.ensures ∙ ap (map (numbers_of_block (block_names c.args.model.now))) c.as_slice-blocks.ensures
 
 pub returns : goal.returns
-returns c = ?
+returns c = record {
+  modes = c.in_ok-modes.ensures;
+  patterns = c.in_ok-patterns.ensures ∙ ap (λ l. map (pattern_of l c.in_ok-modes.modes) c.as_slice-blocks.result.now) c.in_ok-signals.ensures
+      ∙ ap (λ l. map (pattern_of c.args.model.now.signals l) c.as_slice-blocks.result.now) c.in_ok-modes.ensures ∙ ap (map (pattern_of c.args.model.now.signals c.args.model.now.modes)) c.as_slice-blocks.ensures;
+  numbers = c.in_ok-numbers.ensures ∙ ap (λ l. map (numbers_of_block l) c.as_slice-blocks.result.now) c.in_ok-names.ensures ∙ ap (map (numbers_of_block (block_names c.args.model.now))) c.as_slice-blocks.ensures;
+  sizes_long = c.in_ok-sizes.ensures.long;
+  sizes = c.in_ok-sizes.ensures.sizes;
+  top = c.top_in-top.ensures;
+}
