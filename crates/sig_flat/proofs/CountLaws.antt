@@ -1,5 +1,5 @@
 -- The counts of the unfolded model are the sizes and the height of the top block.
-use Rattle.std.proofs.Common.{◌≡◌, ℕ, zero, suc, ◌+◌, ◌-◌, ◌<◌, ◌≤◌, List, [], ◌∷◌, ◌++◌, length, refl, sym, ap, ◌∙◌, arith, length-append, Bool, true, false, min, lit≤, inl, inr}
+use Rattle.std.proofs.Common.{◌≡◌, ℕ, zero, suc, ◌+◌, ◌-◌, ◌<◌, ◌≤◌, List, [], ◌∷◌, ◌++◌, length, refl, sym, ap, ◌∙◌, arith, length-append, Bool, true, false, lit≤, inl, inr}
 use Rattle.std.specs.Prelude.{cond, map, nat_lt, nat_eq, ◌&&◌, Option, Some, None}
 use Rattle.std.specs.List.{flat_map}
 use Rattle.std.proofs.lemmas.List.{length-map}
@@ -15,11 +15,11 @@ use Rattle.std.proofs.lemmas.Bool.{ltb-false, lt-ltb, le-ltb, ne_eqb, cases_lt}
 use Rattle.sig_types.specs.declared.refusals.Counted.{Counted}
 use Rattle.sig_types.specs.declared.refusals.Counted.TheVariants.{Depth, Uses, Nodes, Links, Faults, Tests}
 use Rattle.sig_flat.specs.declared.counts.Counts.{Counts}
-use Rattle.sig_flat.specs.Instances.{Path, Instance, LinkItem, TestItem, instances, instances_at, block_named, own_nodes, own_links, own_faults, own_tests, nodes, links, faults, tests, depth, uses, functional_fault, general_fault, greatest, end_path}
-use Rattle.sig_flat.specs.Counts.{Limited, limited, first_over, has_no_state, refusal_after, flat_refusal}
+use Rattle.sig_flat.specs.Instances.{Path, Instance, TestItem, instances, instances_at, own_nodes, own_links, own_faults, own_tests, nodes, links, faults, tests, depth, uses, functional_fault, general_fault, greatest, end_path}
+use Rattle.sig_flat.specs.Counts.{limited, first_over, has_no_state, refusal_after, flat_refusal}
 use Rattle.sig_flat.specs.Limits.{limits_of}
 use Rattle.sig_flat.specs.Layouts.{numbers_of_block}
-use Rattle.sig_flat.specs.Sizes.{size, size_down, in_word, height, height_down}
+use Rattle.sig_flat.specs.Sizes.{size, in_word, height, height_down}
 use Rattle.sig_flat.specs.Resolved.{block_at}
 use Rattle.sig_flat.specs.Places.{own_names}
 use Rattle.sig_flat.specs.Known.{IsKnown}

@@ -1,5 +1,5 @@
 -- The node at an end's place in the instance of a block, whatever levels are below it.
-use Rattle.std.proofs.Common.{◌≡◌, ℕ, zero, suc, ◌+◌, ◌<◌, List, [], ◌∷◌, ◌++◌, length, take, get_or, refl, sym, ap, ◌∙◌, arith}
+use Rattle.std.proofs.Common.{◌≡◌, ℕ, zero, suc, ◌<◌, List, [], ◌∷◌, ◌++◌, length, take, refl, ap, ◌∙◌, arith}
 use Rattle.std.specs.Prelude.{map, slice_get, slice_index, slice_index_or, Option, Some, None}
 use Rattle.std.specs.List.{AllZip, Contains, flat_map}
 use Rattle.std.proofs.lemmas.List.{map-append}
@@ -10,7 +10,7 @@ use Rattle.sig_types.specs.declared.model.End.{End}
 use Rattle.sig_flat.specs.Instances.{Path, Instance, own_nodes, end_path, instances_at, block_named}
 use Rattle.sig_flat.specs.Sizes.{sum_over, size_down, size, UseEarlier}
 use Rattle.sig_flat.specs.Resolved.{block_at, IsNumberOf, AreResolved}
-use Rattle.sig_flat.specs.Places.{own_names, IsEndPlace, IsPortPlace}
+use Rattle.sig_flat.specs.Places.{own_names, IsEndPlace}
 use Rattle.sig_flat.proofs.PlaceLaws.{path_of, nodes_below, end-at-place, own_paths, get-left, get-map}
 use Rattle.sig_flat.proofs.SizeLaws.{size_down-same}
 

@@ -1,41 +1,28 @@
 -- The copies of a block's items are the items of its instance.
-use Rattle.std.proofs.Common.{◌≡◌, ℕ, zero, suc, ◌+◌, ◌<◌, ◌≤◌, ◌^◌, List, [], ◌∷◌, ◌++◌, length, take, get_or, refl, sym, ap, ◌∙◌, arith, subst, Bool, true, false, length-append}
-use Rattle.std.specs.Prelude.{cond, map, slice_get, slice_index, slice_index_or, Option, Some, None}
+use Rattle.std.proofs.Common.{◌≡◌, ℕ, suc, ◌+◌, List, [], ◌∷◌, ◌++◌, length, refl, sym, ap, ◌∙◌, arith, subst, length-append}
+use Rattle.std.specs.Prelude.{map, slice_get, Option, Some, None}
 use Rattle.std.specs.List.{AllZip, Contains, flat_map}
-use Rattle.std.proofs.lemmas.List.{append_assoc, map-append, length-map}
+use Rattle.std.proofs.lemmas.List.{map-append, length-map}
 use Rattle.sig_types.specs.declared.model.Model.{Model}
 use Rattle.sig_types.specs.declared.model.Block.{Block}
 use Rattle.sig_types.specs.declared.model.Part.{Part}
 use Rattle.sig_types.specs.declared.model.Functional.{Functional}
 use Rattle.sig_types.specs.declared.model.Point.{Point}
 use Rattle.sig_types.specs.declared.model.Test.{Test}
-use Rattle.sig_types.specs.declared.model.Link.{Link}
-use Rattle.sig_types.specs.declared.model.End.{End}
 use Rattle.sig_flat.specs.declared.flat.Node.{Node}
-use Rattle.sig_flat.specs.declared.flat.FlatLink.{FlatLink}
-use Rattle.sig_flat.specs.declared.flat.Fault.{Fault}
-use Rattle.sig_flat.specs.declared.flat.FlatTest.{FlatTest}
 use Rattle.sig_flat.specs.declared.flat.NodeKind.{NodeKind}
 use Rattle.sig_flat.specs.declared.flat.NodeKind.TheVariants.{Port, Switch, Part as PartNode, Point as PointNode}
-use Rattle.sig_flat.specs.declared.pattern.Pattern.{Pattern}
-use Rattle.sig_flat.specs.declared.pattern.FaultPattern.{FaultPattern}
-use Rattle.sig_flat.specs.declared.pattern.TestPattern.{TestPattern}
-use Rattle.sig_flat.specs.declared.links.LinkPattern.{LinkPattern}
-use Rattle.sig_flat.specs.declared.inner.Inner.{Inner}
 use Rattle.sig_flat.specs.declared.walk.Placed.{Placed}
-use Rattle.sig_flat.specs.Instances.{Path, Instance, NodeItem, LinkItem, FaultItem, TestItem, plain_node, own_nodes, own_links, own_faults, own_tests, functional_fault, general_fault, end_path, nodes}
-use Rattle.sig_flat.specs.Sizes.{size}
-use Rattle.sig_flat.specs.Resolved.{block_at}
+use Rattle.sig_flat.specs.Instances.{Path, plain_node, own_nodes, own_faults, own_tests, functional_fault, general_fault}
 use Rattle.sig_flat.specs.Places.{own_names}
-use Rattle.sig_flat.specs.Flats.{path_text, fault_label, test_label, IsSetOf, IsPlace, IsModeOf, IsNodeOf, IsLinkOf, IsFaultOf, IsTestOf}
-use Rattle.sig_flat.specs.Words.{place_among, word_of}
-use Rattle.sig_flat.specs.Known.{ModeIsKnown, IsKnown, IsKnownBlock}
-use Rattle.sig_flat.specs.Patterns.{plain_pattern, part_pattern, point_pattern, node_patterns, functional_patterns, general_patterns, fault_patterns_from, fault_patterns, mode_number, test_pattern, test_patterns_from, test_patterns, first_part, first_point, pattern_of}
-use Rattle.sig_flat.specs.Placed.{node_copy, link_copy, fault_copy, test_copy}
+use Rattle.sig_flat.specs.Flats.{path_text, IsPlace, IsModeOf, IsNodeOf, IsFaultOf, IsTestOf}
+use Rattle.sig_flat.specs.Known.{ModeIsKnown}
+use Rattle.sig_flat.specs.Patterns.{plain_pattern, part_pattern, point_pattern, node_patterns, functional_patterns, general_patterns, fault_patterns_from, fault_patterns, mode_number, test_pattern, test_patterns_from, test_patterns, first_part, first_point}
+use Rattle.sig_flat.specs.Placed.{node_copy, fault_copy, test_copy}
 use Rattle.sig_flat.proofs.NameLaws.{place-found}
 use Rattle.sig_flat.proofs.WordLaws.{word-is-set, nothing-is-set}
-use Rattle.sig_flat.proofs.PlaceLaws.{get-left, get-right, get-map, map-map}
-use Rattle.sig_flat.proofs.PlacedLaws.{IsPlaced, prefix_text, path-last}
+use Rattle.sig_flat.proofs.PlaceLaws.{get-left, get-right, map-map}
+use Rattle.sig_flat.proofs.PlacedLaws.{prefix_text, path-last}
 use Rattle.sig_flat.proofs.ZipLaws.{zip-append, zip-maps}
 
 -- the number of a node of the block, in an instance of it

@@ -1,10 +1,9 @@
 -- The numbers of a model without breach: the blocks of its uses, and the places of its links' ends.
-use Rattle.std.proofs.Common.{◌≡◌, ℕ, zero, suc, ◌+◌, ◌<◌, ◌≤◌, List, [], ◌∷◌, ◌++◌, length, take, get_or, refl, sym, ap, ◌∙◌, arith, subst, Bool, true, false, inl, inr, length-append}
+use Rattle.std.proofs.Common.{◌≡◌, ℕ, zero, suc, ◌+◌, ◌<◌, ◌≤◌, List, [], ◌∷◌, ◌++◌, length, take, get_or, refl, sym, ap, ◌∙◌, arith, subst, inl, inr, length-append}
 use Rattle.std.specs.Prelude.{cond, not, map, slice_get, slice_index, slice_index_or, Option, Some, None}
 use Rattle.std.specs.List.{AllZip, Contains, position_or_len}
 use Rattle.std.specs.Str.{bytes_eq}
 use Rattle.std.proofs.lemmas.List.{length-map}
-use Rattle.std.proofs.lemmas.List.Elements.{Contains-get_or}
 use Rattle.std.proofs.lemmas.List.Folds.{prefix_len-append}
 use Rattle.std.proofs.lemmas.Bool.{ne_eqb, cases_lt}
 use Rattle.std.proofs.lemmas.Option.{slice_get-get_or}
@@ -13,16 +12,14 @@ use Rattle.sig_types.specs.declared.model.Block.{Block}
 use Rattle.sig_types.specs.declared.model.Part.{Part}
 use Rattle.sig_types.specs.declared.model.Point.{Point}
 use Rattle.sig_types.specs.declared.model.Used.{Used}
-use Rattle.sig_types.specs.declared.model.End.{End}
 use Rattle.sig_types.specs.Breaches.{block_names, block_of_use}
-use Rattle.sig_flat.specs.declared.inner.Inner.{Inner}
 use Rattle.sig_flat.specs.Instances.{no_block, block_named}
-use Rattle.sig_flat.specs.Sizes.{sum_over, size, in_word, UseEarlier}
+use Rattle.sig_flat.specs.Sizes.{sum_over, in_word, UseEarlier}
 use Rattle.sig_flat.specs.Resolved.{block_at, IsNumberOf, AreResolved}
-use Rattle.sig_flat.specs.Places.{own_names, IsEndPlace, IsPortPlace}
+use Rattle.sig_flat.specs.Places.{own_names, IsEndPlace}
 use Rattle.sig_flat.specs.Words.{place_among}
-use Rattle.sig_flat.specs.Layouts.{number_of, numbers_of_block, inners_from, no_inner, port_place, end_place}
-use Rattle.sig_flat.specs.Known.{use_names, EndIsKnown, IsKnownBlock, IsKnown}
+use Rattle.sig_flat.specs.Layouts.{number_of, numbers_of_block, inners_from, no_inner}
+use Rattle.sig_flat.specs.Known.{use_names, EndIsKnown, IsKnown}
 use Rattle.sig_flat.proofs.NameLaws.{place-found, named-at, use-named-at}
 use Rattle.sig_flat.proofs.PlaceLaws.{get-map}
 

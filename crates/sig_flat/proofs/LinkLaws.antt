@@ -1,8 +1,8 @@
 -- The places of a block's link ends, and the copies of its links.
-use Rattle.std.proofs.Common.{◌≡◌, ℕ, zero, suc, ◌+◌, ◌<◌, ◌≤◌, List, [], ◌∷◌, ◌++◌, length, take, get_or, refl, sym, ap, ◌∙◌, arith, subst, inl, inr}
-use Rattle.std.specs.Prelude.{map, slice_get, slice_index, slice_index_or, Option, Some, None}
+use Rattle.std.proofs.Common.{◌≡◌, ℕ, zero, suc, ◌+◌, ◌<◌, ◌≤◌, List, [], ◌∷◌, length, take, get_or, refl, sym, ap, ◌∙◌, arith, subst, inl, inr}
+use Rattle.std.specs.Prelude.{map, slice_get, slice_index_or, Option, Some, None}
 use Rattle.std.specs.List.{AllZip, Contains}
-use Rattle.std.proofs.lemmas.List.{length-map, map-append}
+use Rattle.std.proofs.lemmas.List.{length-map}
 use Rattle.std.proofs.lemmas.Option.{slice_get-get_or}
 use Rattle.sig_types.specs.declared.model.Model.{Model}
 use Rattle.sig_types.specs.declared.model.Block.{Block}
@@ -12,13 +12,13 @@ use Rattle.sig_types.specs.declared.model.End.{End}
 use Rattle.sig_flat.specs.declared.inner.Inner.{Inner}
 use Rattle.sig_flat.specs.declared.links.LinkPattern.{LinkPattern}
 use Rattle.sig_flat.specs.declared.walk.Placed.{Placed}
-use Rattle.sig_flat.specs.Instances.{no_block, Path, Instance, own_links, end_path, nodes}
+use Rattle.sig_flat.specs.Instances.{no_block, Instance, own_links, end_path, nodes}
 use Rattle.sig_flat.specs.Sizes.{sum_over, size, in_word}
 use Rattle.sig_flat.specs.Resolved.{block_at, IsNumberOf}
 use Rattle.std.proofs.lemmas.Bool.{cases_lt}
 use Rattle.sig_flat.specs.Places.{own_names}
 use Rattle.sig_flat.specs.Flats.{alive_modes, IsPlace, IsLinkOf}
-use Rattle.sig_flat.specs.Words.{place_among, word_of}
+use Rattle.sig_flat.specs.Words.{place_among}
 use Rattle.sig_flat.specs.Known.{use_names, EndIsKnown, IsKnown}
 use Rattle.sig_flat.specs.Layouts.{numbers_of_block, inners_from, no_inner, port_place, end_place, link_pattern, NamesUse, LinkNamesUses}
 use Rattle.sig_types.specs.Breaches.{block_names}

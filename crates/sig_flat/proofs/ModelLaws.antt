@@ -1,46 +1,32 @@
 -- From the walk and the copies to the flat model: the items of all instances, in their order.
-use Rattle.std.proofs.Common.{◌≡◌, ℕ, zero, suc, ◌+◌, ◌<◌, ◌≤◌, ◌^◌, List, [], ◌∷◌, ◌++◌, length, take, get_or, refl, sym, ap, ◌∙◌, arith, subst, inl, inr, Bool, true, false}
-use Rattle.std.specs.Prelude.{map, slice_get, slice_index, slice_index_or, Option, Some, None, ◌⊎◌, nat_eq, ◌&&◌}
+use Rattle.std.proofs.Common.{◌≡◌, ℕ, zero, suc, ◌+◌, ◌<◌, ◌≤◌, ◌^◌, List, [], length, get_or, refl, sym, ap, ◌∙◌, arith, subst, inl, inr, Bool, true, false}
+use Rattle.std.specs.Prelude.{map, slice_get, slice_index_or, Option, Some, None, ◌⊎◌, nat_eq, ◌&&◌}
 use Rattle.std.specs.List.{AllZip, Contains, flat_map}
-use Rattle.std.proofs.lemmas.List.{length-map, map-append}
-use Rattle.std.proofs.lemmas.Bool.Decides.{nat_tests}
+use Rattle.std.proofs.lemmas.List.{length-map}
 use Rattle.sig_types.specs.declared.model.Model.{Model}
 use Rattle.sig_types.specs.declared.model.Block.{Block}
-use Rattle.sig_types.specs.declared.model.Part.{Part}
-use Rattle.sig_types.specs.declared.model.Point.{Point}
-use Rattle.sig_types.specs.declared.model.Link.{Link}
 use Rattle.sig_types.specs.declared.refusals.Counted.{Counted}
-use Rattle.sig_types.specs.Breaches.{block_names}
 use Rattle.sig_flat.specs.declared.flat.Flat.{Flat}
-use Rattle.sig_flat.specs.declared.flat.Node.{Node}
-use Rattle.sig_flat.specs.declared.flat.FlatLink.{FlatLink}
-use Rattle.sig_flat.specs.declared.flat.Fault.{Fault}
-use Rattle.sig_flat.specs.declared.flat.FlatTest.{FlatTest}
-use Rattle.sig_flat.specs.declared.flat.NodeKind.TheVariants.{Port, Switch, Part as PartNode, Point as PointNode}
-use Rattle.sig_flat.specs.declared.pattern.NodePattern.{NodePattern}
-use Rattle.sig_flat.specs.declared.pattern.FaultPattern.{FaultPattern}
-use Rattle.sig_flat.specs.declared.pattern.TestPattern.{TestPattern}
 use Rattle.sig_flat.specs.declared.pattern.Pattern.{Pattern}
 use Rattle.sig_flat.specs.declared.links.LinkPattern.{LinkPattern}
 use Rattle.sig_flat.specs.declared.inner.Inner.{Inner}
 use Rattle.sig_flat.specs.declared.walk.Placed.{Placed}
-use Rattle.sig_flat.specs.Instances.{Path, Instance, NodeItem, LinkItem, FaultItem, TestItem, no_block, instances, instances_at, own_nodes, own_links, own_faults, own_tests, nodes, links, faults, tests}
+use Rattle.sig_flat.specs.Instances.{Path, Instance, no_block, instances, instances_at, own_nodes, own_links, own_faults, own_tests, nodes, links, faults, tests}
 use Rattle.sig_flat.specs.Counts.{limited, first_over, has_no_state, refusal_after, flat_refusal}
 use Rattle.sig_flat.specs.Sizes.{size, in_word}
 use Rattle.sig_flat.specs.Resolved.{block_at}
 use Rattle.sig_flat.specs.Places.{own_names}
 use Rattle.sig_flat.specs.Flats.{IsPlace, IsModeOf, IsNodeOf, IsLinkOf, IsFaultOf, IsTestOf, IsFlatOf}
 use Rattle.sig_flat.specs.Valid.{IsValid}
-use Rattle.sig_flat.specs.Known.{use_names, IsKnown, IsKnownBlock}
-use Rattle.sig_flat.specs.Patterns.{plain_pattern, part_pattern, point_pattern, node_patterns, pattern_of}
-use Rattle.sig_flat.specs.Layouts.{inners_from, link_pattern, pattern_names}
-use Rattle.sig_flat.specs.Placed.{placed_at, NestEarlier, StartsFit, node_copy, link_copy, fault_copy, test_copy, node_copies, link_copies, fault_copies, test_copies, no_pattern, LinksFit, FaultsFit, TestsFit, WeightsFit, CostsFit}
+use Rattle.sig_flat.specs.Known.{use_names, IsKnown}
+use Rattle.sig_flat.specs.Patterns.{pattern_of}
+use Rattle.sig_flat.specs.Layouts.{inners_from, link_pattern}
+use Rattle.sig_flat.specs.Placed.{placed_at, StartsFit, node_copy, link_copy, fault_copy, test_copy, node_copies, link_copies, fault_copies, test_copies, no_pattern, WeightsFit, CostsFit}
 use Rattle.sig_flat.specs.Surveys.{numbers_of, top_of, own_of, patterns_of_model, IsPlacing}
-use Rattle.sig_flat.proofs.PlaceLaws.{path_of, map-map}
-use Rattle.sig_flat.proofs.PatternLaws.{names-kept}
+use Rattle.sig_flat.proofs.PlaceLaws.{path_of}
 use Rattle.sig_flat.proofs.EndLaws.{get-below, zip-length}
 use Rattle.sig_flat.proofs.WalkLaws.{placed-at-levels}
-use Rattle.sig_flat.proofs.PlacedLaws.{IsPlaced, StandsIn, placed-instances}
+use Rattle.sig_flat.proofs.PlacedLaws.{IsPlaced, placed-instances}
 use Rattle.sig_flat.proofs.ZipLaws.{zip-flat_map, zip-partner, contains-map}
 use Rattle.sig_flat.proofs.KnownLaws.{at-map, resolved, earlier}
 use Rattle.sig_flat.proofs.CountLaws.{top-there, top-instances, all-nodes, IsWithin, within}

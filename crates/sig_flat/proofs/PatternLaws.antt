@@ -1,16 +1,13 @@
 -- The patterns of a block and the items of its instances.
-use Rattle.std.proofs.Common.{◌≡◌, ℕ, suc, ◌+◌, ◌<◌, List, [], ◌∷◌, ◌++◌, length, refl, sym, ap, ◌∙◌, arith, length-append}
+use Rattle.std.proofs.Common.{◌≡◌, ℕ, ◌+◌, List, [], ◌∷◌, length, refl, sym, ap, ◌∙◌, length-append}
 use Rattle.std.specs.Prelude.{map}
-use Rattle.std.proofs.lemmas.List.{append_assoc, map-append, length-map}
+use Rattle.std.proofs.lemmas.List.{map-append, length-map}
 use Rattle.sig_types.specs.declared.model.Block.{Block}
-use Rattle.sig_flat.specs.declared.flat.NodeKind.TheVariants.{Port, Switch, Part as PartNode, Point as PointNode}
 use Rattle.sig_flat.specs.declared.pattern.NodePattern.{NodePattern}
-use Rattle.sig_types.specs.declared.model.Part.{Part}
-use Rattle.sig_types.specs.declared.model.Point.{Point}
 use Rattle.sig_flat.specs.Places.{own_names}
 use Rattle.sig_flat.specs.Layouts.{pattern_names}
 use Rattle.sig_flat.proofs.PlaceLaws.{map-map}
-use Rattle.sig_flat.specs.Patterns.{pattern_of, plain_pattern, part_pattern, point_pattern, node_patterns, first_point}
+use Rattle.sig_flat.specs.Patterns.{pattern_of, node_patterns, first_point}
 
 pub length-node_patterns : (signals : List (List ℕ)) (block : Block) → length (node_patterns signals block) ≡ first_point block + length block.points
 unfolding node_patterns

@@ -1,7 +1,7 @@
 -- The instances that the walk writes down are those of the model, in its order, each with the number of its first
 -- node: a block's own nodes come first, and then those of its uses, one instance after another.
-use Rattle.std.proofs.Common.{◌≡◌, ℕ, zero, suc, ◌+◌, ◌-◌, ◌^◌, ◌<◌, ◌≤◌, List, [], ◌∷◌, ◌++◌, length, take, get_or, refl, sym, ap, ◌∙◌, arith, subst, length-append}
-use Rattle.std.specs.Prelude.{map, slice_get, slice_index, slice_index_or, Option, Some, None}
+use Rattle.std.proofs.Common.{◌≡◌, ℕ, zero, suc, ◌+◌, ◌<◌, ◌≤◌, List, [], ◌∷◌, ◌++◌, length, get_or, refl, sym, ap, ◌∙◌, arith, subst}
+use Rattle.std.specs.Prelude.{map, slice_get, slice_index_or, Some}
 use Rattle.std.specs.List.{flat_map, AllZip, Contains}
 use Rattle.std.proofs.lemmas.List.{append_assoc, map-append, length-map}
 use Rattle.std.proofs.lemmas.Grind.{flat_map-append}
@@ -10,8 +10,8 @@ use Rattle.sig_types.specs.declared.model.Used.{Used}
 use Rattle.sig_types.specs.declared.model.End.{End}
 use Rattle.sig_flat.specs.declared.inner.Inner.{Inner}
 use Rattle.sig_flat.specs.declared.walk.Placed.{Placed}
-use Rattle.sig_flat.specs.Instances.{Path, Instance, NodeItem, own_nodes, end_path, instances_at, block_named}
-use Rattle.sig_flat.specs.Sizes.{sum_over, size_down, size, in_word, UseEarlier}
+use Rattle.sig_flat.specs.Instances.{Path, Instance, own_nodes, end_path, instances_at, block_named}
+use Rattle.sig_flat.specs.Sizes.{sum_over, size, in_word, UseEarlier}
 use Rattle.sig_flat.specs.Resolved.{block_at, IsNumberOf, AreResolved}
 use Rattle.sig_flat.specs.Places.{own_names, IsEndPlace}
 use Rattle.sig_flat.specs.Flats.{path_text}

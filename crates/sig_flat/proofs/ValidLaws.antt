@@ -1,11 +1,11 @@
 -- What a model without breach keeps to: each use names an earlier block, each test a mode that is there, and each
 -- link's end a node of the block or a port of one of its uses.
 use Rattle.std.proofs.Common.{◌≡◌, ℕ, zero, suc, ◌+◌, ◌<◌, ◌≤◌, List, [], ◌∷◌, ◌++◌, length, get_or, refl, sym, ap, ◌∙◌, arith, Bool, true, false, subst}
-use Rattle.std.specs.Prelude.{cond, map, not, nat_le, nat_lt, slice_get, slice_index_or, ◌&&◌, ◌||◌, Option, Some, None}
+use Rattle.std.specs.Prelude.{cond, map, not, nat_le, nat_lt, ◌&&◌, ◌||◌, Option, Some, None}
 use Rattle.std.specs.List.{Contains, list_any, position_or_len}
 use Rattle.std.specs.Str.{bytes_eq}
-use Rattle.std.proofs.lemmas.Bool.{ltb-true, ltb-false, leb-true, leb-false}
-use Rattle.std.proofs.lemmas.List.{append_assoc, map-append, length-map}
+use Rattle.std.proofs.lemmas.Bool.{ltb-false, leb-false}
+use Rattle.std.proofs.lemmas.List.{map-append}
 use Rattle.std.proofs.lemmas.List.Folds.{list_any-append}
 use Rattle.sig_types.specs.declared.model.Model.{Model}
 use Rattle.sig_types.specs.declared.model.Block.{Block}
@@ -14,20 +14,18 @@ use Rattle.sig_types.specs.declared.model.Used.{Used}
 use Rattle.sig_types.specs.declared.model.Point.{Point}
 use Rattle.sig_types.specs.declared.model.Test.{Test}
 use Rattle.sig_types.specs.declared.model.Link.{Link}
-use Rattle.sig_types.specs.declared.model.End.{End}
 use Rattle.sig_types.specs.declared.refusals.Refusal.{Refusal}
 use Rattle.sig_types.specs.declared.refusals.Code.{Code}
 use Rattle.sig_types.specs.declared.refusals.Place.{Place}
-use Rattle.sig_types.specs.declared.refusals.Kind.TheVariants.{Part as PartKind, Use as UseKind, Point as PointKind, Link as LinkKind}
-use Rattle.sig_types.specs.declared.refusals.Key.TheVariants.{Signals, Modes, Top, Name, Ports, Switches, Stops, Block as BlockKey, Mode, From, To}
-use Rattle.sig_types.specs.declared.refusals.Counted.TheVariants.{Signals as ManySignals, Modes as ManyModes, Blocks as ManyBlocks}
-use Rattle.sig_types.specs.Breaches.{breaches, each, each_from, breach_if, has, has_use, has_port, block_of_use, block_names, known_modes, block_breaches, repeated_names, part_breaches, use_breaches, test_breaches, mode_breaches, link_breaches, end_breaches, end_of_item, unknown_among, scope_of, names_of, Named, named, too_many, repeats, in_document, in_block, in_item, in_test, is_switch, same_answer, names_some, or_normal}
+use Rattle.sig_types.specs.declared.refusals.Kind.TheVariants.{Part as PartKind, Use as UseKind, Point as PointKind}
+use Rattle.sig_types.specs.declared.refusals.Key.TheVariants.{Name, Ports, Switches}
+use Rattle.sig_types.specs.Breaches.{breaches, each, each_from, breach_if, has, has_use, has_port, block_of_use, block_names, known_modes, block_breaches, repeated_names, part_breaches, use_breaches, test_breaches, mode_breaches, link_breaches, end_breaches, end_of_item, scope_of, names_of, named, in_block, in_item, or_normal}
 use Rattle.sig_flat.specs.Instances.{no_block, block_named}
 use Rattle.sig_flat.specs.Resolved.{block_at}
 use Rattle.sig_flat.specs.Places.{own_names}
 use Rattle.sig_flat.specs.Words.{place_among}
 use Rattle.sig_flat.specs.Known.{use_names, EndIsKnown, ModeIsKnown, IsKnownBlock, IsKnown}
-use Rattle.sig_flat.proofs.NameLaws.{any-place, use-name, use-named-at, port-of-named, place-found}
+use Rattle.sig_flat.proofs.NameLaws.{any-place, use-name, port-of-named}
 
 -- two lists that are empty together
 both-empty : {X : Type 0} (xs ys : List X) → xs ++ ys ≡ [] → (xs ≡ []) × (ys ≡ [])

@@ -4,7 +4,7 @@ use Rattle.std.specs.List.{Contains, flat_map}
 use Rattle.std.proofs.Math.Seq.{take-suc}
 use Rattle.std.proofs.lemmas.Grind.{flat_map-append}
 use Rattle.std.specs.Prelude.{map}
-use Rattle.std.proofs.lemmas.List.{append-nil, take_all, map-append, get_or_default}
+use Rattle.std.proofs.lemmas.List.{append-nil, map-append, get_or_default}
 use Rattle.std.proofs.lemmas.List.Elements.{Contains-append_left, Contains-append_right, Contains-append_cases}
 use Rattle.sig_flat.specs.declared.inner.Inner.{Inner}
 use Rattle.sig_flat.specs.declared.walk.Placed.{Placed}

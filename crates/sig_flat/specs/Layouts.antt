@@ -1,11 +1,9 @@
 -- A block's uses and links by numbers: where the instances of its uses begin, and which nodes its links join,
 -- counted from the first node of an instance. Numbers stand still at the end of a word.
-use Rattle.std.specs.Prelude.{◌≡◌, ℕ, ◌+◌, ◌<◌, List, [], ◌∷◌, ◌++◌, map, length, slice_index, slice_index_or, Option, Some, None}
-use Rattle.std.specs.List.{Contains}
+use Rattle.std.specs.Prelude.{ℕ, ◌+◌, ◌<◌, List, [], ◌∷◌, map, length, slice_index, slice_index_or, Option, Some, None}
 use Rattle.sig_types.specs.declared.model.Block.{Block}
 use Rattle.sig_types.specs.declared.model.Used.{Used}
 use Rattle.sig_types.specs.declared.model.Link.{Link}
-use Rattle.sig_types.specs.declared.model.End.{End}
 use Rattle.sig_flat.specs.declared.pattern.NodePattern.{NodePattern}
 use Rattle.sig_flat.specs.declared.pattern.Pattern.{Pattern}
 use Rattle.sig_flat.specs.declared.inner.Inner.{Inner}

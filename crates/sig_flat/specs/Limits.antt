@@ -1,5 +1,5 @@
 -- The counts of the code with their limits.
-use Rattle.std.specs.Prelude.{ℕ, List, [], ◌∷◌}
+use Rattle.std.specs.Prelude.{List, [], ◌∷◌}
 use Rattle.sig_types.specs.declared.refusals.Counted.TheVariants.{Depth, Uses, Nodes, Links, Faults, Tests}
 use Rattle.sig_flat.specs.declared.counts.Counts.{Counts}
 use Rattle.sig_flat.specs.Counts.{Limited}

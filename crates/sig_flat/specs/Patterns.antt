@@ -1,6 +1,5 @@
 -- The own items of a block, numbered from the first node of an instance.
-use Rattle.std.specs.Prelude.{ℕ, suc, ◌+◌, Bool, true, false, List, [], ◌∷◌, ◌++◌, map, length, Option, Some, None}
-use Rattle.sig_types.specs.declared.model.Model.{Model}
+use Rattle.std.specs.Prelude.{ℕ, suc, ◌+◌, true, false, List, [], ◌∷◌, ◌++◌, map, length, Option, Some, None}
 use Rattle.sig_types.specs.declared.model.Block.{Block}
 use Rattle.sig_types.specs.declared.model.Part.{Part}
 use Rattle.sig_types.specs.declared.model.Functional.{Functional}

@@ -1,5 +1,5 @@
 -- The instances of a model as the walk writes them down.
-use Rattle.std.specs.Prelude.{◌≡◌, ℕ, zero, suc, ◌+◌, ◌^◌, ◌<◌, ◌≤◌, Bool, cond, List, [], ◌∷◌, ◌++◌, map, slice_index_or}
+use Rattle.std.specs.Prelude.{ℕ, zero, suc, ◌+◌, ◌^◌, ◌<◌, ◌≤◌, cond, List, [], ◌∷◌, ◌++◌, map, slice_index_or}
 use Rattle.std.specs.List.{Contains, flat_map}
 use Rattle.sig_flat.specs.declared.flat.Node.{Node}
 use Rattle.sig_flat.specs.declared.flat.FlatLink.{FlatLink}

@@ -1,5 +1,4 @@
-use Rattle.std.proofs.Common.{◌≡◌, ◌+◌, ◌<◌, ◌≤◌, ◌++◌, [], ◌∷◌, length, map, take, ap, sym, ◌∙◌, arith, subst}
-use Rattle.std.specs.List.{Contains}
+use Rattle.std.proofs.Common.{◌≡◌, ◌<◌, ◌≤◌, ◌++◌, [], ◌∷◌, length, ap, sym, ◌∙◌, arith, subst}
 use Rattle.sig_flat.specs.declared.flat.Fault.{Fault}
 use Rattle.sig_flat.specs.Placed.{fault_copy, WeightsFit}
 use Rattle.sig_flat.proofs.WalkLaws.{map-next, fits-more}

@@ -1,5 +1,5 @@
 use Rattle.std.proofs.Common.{◌≡◌, ◌++◌, map, take}
-use Rattle.sig_flat.specs.Placed.{node_copy, link_copy, fault_copy, test_copy, WeightsFit, CostsFit}
+use Rattle.sig_flat.specs.Placed.{fault_copy, WeightsFit}
 use Rattle.sig_flat.proofs.copies.copy_faults.Given as goal
 
 abbrev pub invariant-loop-fault : goal.invariant-loop-fault

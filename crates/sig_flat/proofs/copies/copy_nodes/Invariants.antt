@@ -1,5 +1,5 @@
 use Rattle.std.proofs.Common.{◌≡◌, ◌++◌, map, take}
-use Rattle.sig_flat.specs.Placed.{node_copy, link_copy, fault_copy, test_copy, WeightsFit, CostsFit}
+use Rattle.sig_flat.specs.Placed.{node_copy}
 use Rattle.sig_flat.proofs.copies.copy_nodes.Given as goal
 
 abbrev pub invariant-loop-node : goal.invariant-loop-node

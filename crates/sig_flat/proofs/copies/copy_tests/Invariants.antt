@@ -1,5 +1,5 @@
 use Rattle.std.proofs.Common.{◌≡◌, ◌++◌, map, take}
-use Rattle.sig_flat.specs.Placed.{node_copy, link_copy, fault_copy, test_copy, WeightsFit, CostsFit}
+use Rattle.sig_flat.specs.Placed.{test_copy, CostsFit}
 use Rattle.sig_flat.proofs.copies.copy_tests.Given as goal
 
 abbrev pub invariant-loop-test : goal.invariant-loop-test

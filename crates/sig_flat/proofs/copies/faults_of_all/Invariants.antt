@@ -1,6 +1,6 @@
 use Rattle.std.proofs.Common.{◌≡◌, take}
 use Rattle.std.specs.List.{flat_map}
-use Rattle.sig_flat.specs.Placed.{node_copies, link_copies, fault_copies, test_copies, WeightsFit, CostsFit}
+use Rattle.sig_flat.specs.Placed.{fault_copies, WeightsFit}
 use Rattle.sig_flat.proofs.copies.faults_of_all.Given as goal
 
 abbrev pub invariant-loop-instance : goal.invariant-loop-instance

@@ -1,7 +1,7 @@
-use Rattle.std.proofs.Common.{◌≡◌, ◌+◌, ◌<◌, ◌++◌, [], length, map, take, get_or, ap, sym, ◌∙◌, arith, subst}
-use Rattle.std.specs.List.{Contains, flat_map}
+use Rattle.std.proofs.Common.{◌<◌, ◌++◌, length, map, take, ap, sym, ◌∙◌, arith}
+use Rattle.std.specs.List.{flat_map}
 use Rattle.std.proofs.lemmas.List.{get_or_default}
-use Rattle.sig_flat.specs.Placed.{node_copy, node_copies, no_pattern, LinksFit, FaultsFit, TestsFit}
+use Rattle.sig_flat.specs.Placed.{node_copy, node_copies, no_pattern}
 use Rattle.sig_flat.proofs.WalkLaws.{flat_map-next}
 use Rattle.sig_flat.proofs.copies.nodes_of_all.Goals as goal
 

@@ -1,4 +1,4 @@
-use Rattle.std.proofs.Common.{◌≡◌, ◌≤◌, List, [], length, ap, sym, ◌∙◌, subst}
+use Rattle.std.proofs.Common.{◌≡◌, ◌≤◌, [], length, ap, sym, ◌∙◌, subst}
 use Rattle.sig_types.specs.declared.model.Model.{Model}
 use Rattle.sig_types.specs.Breaches.{breaches}
 use Rattle.sig_flat.specs.Counts.{flat_refusal}

@@ -1,6 +1,5 @@
-use Rattle.std.proofs.Common.{◌≡◌, ◌+◌, ◌<◌, ℕ, ◌++◌, map, take, drop, length, get_or}
-use Rattle.sig_flat.specs.Layouts.{number_of, numbers_of_block, pattern_names, inners_from, link_pattern}
-use Rattle.sig_flat.specs.Sizes.{in_word, greatest_over, height}
+use Rattle.std.proofs.Common.{◌≡◌, ◌++◌, drop}
+use Rattle.sig_flat.specs.Layouts.{inners_from}
 use Rattle.sig_flat.proofs.inner.inners_of.Given as goal
 
 abbrev pub invariant-loop-nth : goal.invariant-loop-nth

@@ -1,8 +1,7 @@
-use Rattle.std.proofs.Common.{◌≡◌, ◌<◌, ℕ, [], map, take, length, get_or}
+use Rattle.std.proofs.Common.{◌≡◌, ◌<◌, ℕ, [], length, get_or}
 use Rattle.sig_flat.specs.Resolved.{block_at}
 use Rattle.sig_flat.specs.Placed.{no_pattern}
-use Rattle.sig_flat.specs.Known.{use_names}
-use Rattle.sig_flat.specs.Layouts.{inners_from, link_pattern}
+use Rattle.sig_flat.specs.Layouts.{inners_from}
 use Rattle.sig_flat.proofs.layout.inners_of_blocks.Given as goal
 
 abbrev pub invariant-loop-k : goal.invariant-loop-k

@@ -1,6 +1,5 @@
-use Rattle.std.proofs.Common.{◌≡◌, ◌+◌, ◌++◌, map, take, drop}
-use Rattle.sig_flat.specs.declared.flat.NodeKind.TheVariants.{Port}
-use Rattle.sig_flat.specs.Patterns.{plain_pattern, part_pattern, point_pattern, fault_patterns_from, test_pattern, test_patterns_from, pattern_of}
+use Rattle.std.proofs.Common.{◌≡◌, ◌++◌, map, take}
+use Rattle.sig_flat.specs.Patterns.{plain_pattern}
 use Rattle.sig_flat.proofs.pattern.add_plain.Given as goal
 
 abbrev pub invariant-loop-name : goal.invariant-loop-name

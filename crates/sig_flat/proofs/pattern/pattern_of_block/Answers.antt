@@ -1,4 +1,4 @@
-use Rattle.std.proofs.Common.{◌≡◌, ◌+◌, length, ap, ◌∙◌}
+use Rattle.std.proofs.Common.{length, ap, ◌∙◌}
 use Rattle.sig_flat.proofs.PatternLaws.{length-node_patterns}
 use Rattle.sig_flat.proofs.pattern.pattern_of_block.Goals as goal
 

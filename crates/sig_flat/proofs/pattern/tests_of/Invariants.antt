@@ -1,6 +1,5 @@
-use Rattle.std.proofs.Common.{◌≡◌, ◌+◌, ◌++◌, map, take, drop}
-use Rattle.sig_flat.specs.declared.flat.NodeKind.TheVariants.{Port}
-use Rattle.sig_flat.specs.Patterns.{plain_pattern, part_pattern, point_pattern, fault_patterns_from, test_pattern, test_patterns_from, pattern_of}
+use Rattle.std.proofs.Common.{◌≡◌, ◌+◌, ◌++◌, drop}
+use Rattle.sig_flat.specs.Patterns.{test_patterns_from}
 use Rattle.sig_flat.proofs.pattern.tests_of.Given as goal
 
 abbrev pub invariant-loop-k : goal.invariant-loop-k

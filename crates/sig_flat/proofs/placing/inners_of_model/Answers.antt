@@ -1,4 +1,4 @@
-use Rattle.std.proofs.Common.{◌≡◌, ◌<◌, ℕ, List, [], length, map, ap, sym, ◌∙◌, subst, get_or, arith}
+use Rattle.std.proofs.Common.{◌≡◌, ◌<◌, ℕ, List, [], length, ap, sym, ◌∙◌, subst, arith}
 use Rattle.std.specs.Prelude.{slice_index_or}
 use Rattle.std.specs.List.{Contains}
 use Rattle.std.proofs.lemmas.List.{length-map}
@@ -11,7 +11,6 @@ use Rattle.sig_flat.specs.Places.{own_names}
 use Rattle.sig_flat.specs.Patterns.{pattern_of}
 use Rattle.sig_flat.specs.Layouts.{numbers_of_block, inners_from}
 use Rattle.sig_flat.specs.Placed.{no_pattern}
-use Rattle.sig_flat.specs.Surveys.{numbers_of, patterns_of_model}
 use Rattle.sig_flat.proofs.PatternLaws.{nodes-counted}
 use Rattle.sig_flat.proofs.KnownLaws.{at-map}
 use Rattle.sig_flat.proofs.LinkLaws.{uses-long, numbers-known}

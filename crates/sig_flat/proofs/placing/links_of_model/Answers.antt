@@ -1,10 +1,8 @@
-use Rattle.std.proofs.Common.{◌≡◌, ◌<◌, ℕ, List, [], length, map, ap, sym, ◌∙◌, subst, get_or, arith}
+use Rattle.std.proofs.Common.{◌≡◌, ◌<◌, ℕ, List, [], length, map, ap, sym, ◌∙◌, subst, arith}
 use Rattle.std.specs.Prelude.{slice_index_or}
 use Rattle.std.specs.List.{Contains}
 use Rattle.std.proofs.lemmas.List.{length-map}
 use Rattle.sig_types.specs.declared.model.Block.{Block}
-use Rattle.sig_types.specs.declared.model.Link.{Link}
-use Rattle.sig_flat.specs.declared.pattern.Pattern.{Pattern}
 use Rattle.sig_flat.specs.Instances.{no_block}
 use Rattle.sig_flat.specs.Resolved.{block_at}
 use Rattle.sig_flat.specs.Places.{own_names}

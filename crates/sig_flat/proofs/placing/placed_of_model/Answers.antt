@@ -1,6 +1,5 @@
-use Rattle.std.proofs.Common.{◌≡◌, ◌<◌, ℕ, List, [], ◌++◌, length, ap, sym, ◌∙◌, subst, arith}
-use Rattle.sig_flat.specs.Placed.{placed_at, NestEarlier, StartsFit}
-use Rattle.sig_flat.specs.Surveys.{top_of}
+use Rattle.std.proofs.Common.{[], ◌++◌, ap, sym, ◌∙◌, subst, arith}
+use Rattle.sig_flat.specs.Placed.{placed_at, StartsFit}
 use Rattle.sig_flat.proofs.CountLaws.{top-there}
 use Rattle.sig_flat.proofs.LinkLaws.{nest-earlier}
 use Rattle.sig_flat.proofs.ModelLaws.{starts-fit}

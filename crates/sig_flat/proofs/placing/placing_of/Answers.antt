@@ -1,6 +1,5 @@
-use Rattle.std.proofs.Common.{◌≡◌, ◌<◌, ℕ, List, [], length, ap, sym, ◌∙◌, subst, arith}
-use Rattle.sig_flat.specs.declared.inner.Inner.{Inner}
-use Rattle.sig_flat.specs.Surveys.{AreInners, AreLinks, IsPlacing}
+use Rattle.std.proofs.Common.{sym, subst}
+use Rattle.sig_flat.specs.Surveys.{AreInners, IsPlacing}
 use Rattle.sig_flat.proofs.ModelLaws.{is-placing}
 use Rattle.sig_flat.proofs.placing.placing_of.Goals as goal
 

@@ -1,6 +1,6 @@
-use Rattle.std.proofs.Common.{◌≡◌, ◌<◌, ℕ, List, length, map, ap, sym, ◌∙◌, subst}
+use Rattle.std.proofs.Common.{ap, sym, ◌∙◌, subst}
 use Rattle.sig_flat.specs.Sizes.{in_word, height, UseEarlier}
-use Rattle.sig_flat.specs.Surveys.{numbers_of, top_of}
+use Rattle.sig_flat.specs.Surveys.{numbers_of}
 use Rattle.sig_flat.proofs.KnownLaws.{earlier}
 use Rattle.sig_flat.proofs.CountLaws.{depth-is, top-in-numbers}
 use Rattle.sig_flat.proofs.survey.depth_in.Goals as goal

@@ -1,6 +1,6 @@
-use Rattle.std.proofs.Common.{◌≡◌, ◌<◌, ℕ, List, length, ap, sym, ◌∙◌, get_or, arith}
-use Rattle.sig_flat.specs.Sizes.{in_word, size}
-use Rattle.sig_flat.specs.Surveys.{numbers_of, top_of, own_of}
+use Rattle.std.proofs.Common.{length, ap, sym, ◌∙◌, get_or, arith}
+use Rattle.sig_flat.specs.Sizes.{in_word}
+use Rattle.sig_flat.specs.Surveys.{top_of}
 use Rattle.sig_flat.proofs.CountLaws.{top-there, all-nodes}
 use Rattle.sig_flat.proofs.survey.nodes_in.Goals as goal
 

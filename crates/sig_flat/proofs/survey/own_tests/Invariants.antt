@@ -1,8 +1,4 @@
-use Rattle.std.proofs.Common.{◌≡◌, ◌<◌, ℕ, [], map, take, length, get_or}
-use Rattle.sig_flat.specs.Resolved.{block_at}
-use Rattle.sig_flat.specs.Placed.{no_pattern}
-use Rattle.sig_flat.specs.Known.{use_names}
-use Rattle.sig_flat.specs.Layouts.{inners_from, link_pattern}
+use Rattle.std.proofs.Common.{◌≡◌, map, take, length}
 use Rattle.sig_flat.proofs.survey.own_tests.Given as goal
 
 abbrev pub invariant-loop-pattern : goal.invariant-loop-pattern

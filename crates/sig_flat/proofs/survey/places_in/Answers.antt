@@ -1,4 +1,4 @@
-use Rattle.std.proofs.Common.{◌≡◌, map, ap, ◌∙◌}
+use Rattle.std.proofs.Common.{map, ap, ◌∙◌}
 use Rattle.sig_types.specs.declared.model.Block.{Block}
 use Rattle.sig_flat.proofs.survey.places_in.Goals as goal
 

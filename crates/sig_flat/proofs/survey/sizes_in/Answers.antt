@@ -1,4 +1,4 @@
-use Rattle.std.proofs.Common.{◌≡◌, ◌<◌, ℕ, List, length, map, ap, sym, ◌∙◌, subst, arith}
+use Rattle.std.proofs.Common.{◌≡◌, length, map, ap, sym, ◌∙◌, subst, arith}
 use Rattle.std.proofs.lemmas.List.{length-map}
 use Rattle.sig_types.specs.declared.model.Block.{Block}
 use Rattle.sig_types.specs.Breaches.{block_names}
@@ -7,7 +7,7 @@ use Rattle.sig_flat.specs.Sizes.{in_word, size, UseEarlier}
 use Rattle.sig_flat.specs.Places.{own_names}
 use Rattle.sig_flat.specs.Patterns.{pattern_of}
 use Rattle.sig_flat.specs.Layouts.{numbers_of_block}
-use Rattle.sig_flat.specs.Surveys.{numbers_of, own_of, patterns_of_model}
+use Rattle.sig_flat.specs.Surveys.{own_of}
 use Rattle.sig_flat.proofs.PlaceLaws.{map-map}
 use Rattle.sig_flat.proofs.PatternLaws.{nodes-counted, map-same}
 use Rattle.sig_flat.proofs.KnownLaws.{earlier}

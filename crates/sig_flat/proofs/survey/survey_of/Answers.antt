@@ -1,10 +1,7 @@
-use Rattle.std.proofs.Common.{◌≡◌, ◌<◌, ◌≤◌, ℕ, List, length, map, ap, sym, ◌∙◌, subst, arith}
-use Rattle.std.proofs.lemmas.List.{length-map}
-use Rattle.sig_types.specs.declared.model.Block.{Block}
+use Rattle.std.proofs.Common.{map, ap, ◌∙◌}
 use Rattle.sig_types.specs.Breaches.{block_names}
 use Rattle.sig_flat.specs.Patterns.{pattern_of}
 use Rattle.sig_flat.specs.Layouts.{numbers_of_block}
-use Rattle.sig_flat.specs.Surveys.{numbers_of, patterns_of_model}
 use Rattle.sig_flat.proofs.survey.survey_of.Goals as goal
 
 pub sizes_in-requires-clause-patterns : goal.sizes_in-requires-clause-patterns

@@ -1,15 +1,15 @@
-use Rattle.std.proofs.Common.{◌≡◌, ℕ, List, length, map, ap, sym, ◌∙◌, subst}
+use Rattle.std.proofs.Common.{◌≡◌, length, map, ap, sym, ◌∙◌, subst}
 use Rattle.sig_types.specs.declared.model.Block.{Block}
 use Rattle.sig_flat.specs.declared.pattern.Pattern.{Pattern}
 use Rattle.sig_flat.specs.Sizes.{in_word, size, UseEarlier}
-use Rattle.sig_flat.specs.Patterns.{pattern_of, fault_patterns, test_patterns}
-use Rattle.sig_flat.specs.Surveys.{numbers_of, top_of, patterns_of_model}
+use Rattle.sig_flat.specs.Patterns.{pattern_of, test_patterns}
+use Rattle.sig_flat.specs.Surveys.{numbers_of, patterns_of_model}
 use Rattle.std.proofs.lemmas.List.{length-map}
 use Rattle.sig_flat.specs.Layouts.{numbers_of_block}
 use Rattle.sig_types.specs.Breaches.{block_names}
 use Rattle.sig_flat.proofs.PlaceLaws.{map-map}
 use Rattle.sig_flat.proofs.KnownLaws.{earlier}
-use Rattle.sig_flat.proofs.CountLaws.{instances-counted, uses-less, links-counted, all-faults, all-tests, top-in-numbers}
+use Rattle.sig_flat.proofs.CountLaws.{all-tests, top-in-numbers}
 use Rattle.sig_flat.proofs.survey.tests_in.Goals as goal
 
 pub size_at-requires-clause-earlier : goal.size_at-requires-clause-earlier

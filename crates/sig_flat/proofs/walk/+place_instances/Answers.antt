@@ -1,9 +1,8 @@
 use Rattle.std.proofs.Common.{◌≡◌, ◌+◌, ◌<◌, ◌^◌, List, ℕ, [], ◌∷◌, ◌++◌, length, take, get_or, ap, sym, ◌∙◌, arith, subst, append_assoc}
-use Rattle.std.specs.List.{Contains, flat_map}
+use Rattle.std.specs.List.{flat_map}
 use Rattle.std.proofs.lemmas.List.{get_or_default, take_all}
-use Rattle.sig_flat.specs.declared.inner.Inner.{Inner}
 use Rattle.sig_flat.specs.declared.walk.Placed.{Placed}
-use Rattle.sig_flat.specs.Placed.{placed_at, inner_prefix, NestEarlier, StartsFit}
+use Rattle.sig_flat.specs.Placed.{placed_at, inner_prefix, StartsFit}
 use Rattle.sig_flat.proofs.WalkLaws.{placed-uses, inside, inside-fits, first-fits, among-row}
 use Rattle.sig_flat.proofs.walk.+place_instances.Goals as goal
 

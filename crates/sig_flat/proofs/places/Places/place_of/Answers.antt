@@ -1,8 +1,7 @@
-use Rattle.std.proofs.Common.{◌≡◌, ℕ, List, ap, sym, ◌∙◌, length}
-use Rattle.std.specs.Prelude.{Option, None}
+use Rattle.std.proofs.Common.{◌≡◌, ap, sym, ◌∙◌}
+use Rattle.std.specs.Prelude.{None}
 use Rattle.std.specs.List.{position, position_or_len}
 use Rattle.std.specs.Str.{bytes_eq}
-use Rattle.std.specs.HashMap.{get}
 use Rattle.sig_flat.proofs.PlacesLaws.{none-place}
 use Rattle.sig_flat.proofs.places.Places.place_of.Goals as goal
 
