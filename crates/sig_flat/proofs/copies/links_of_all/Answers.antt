@@ -1,0 +1,27 @@
+use Rattle.std.proofs.Common.{◌<◌, ◌++◌, [], length, map, take, ap, sym, ◌∙◌, arith, subst}
+use Rattle.std.specs.List.{flat_map}
+use Rattle.std.proofs.lemmas.List.{get_or_default}
+use Rattle.sig_flat.specs.Placed.{link_copy, link_copies, LinksFit}
+use Rattle.sig_flat.proofs.WalkLaws.{flat_map-next}
+use Rattle.sig_flat.proofs.copies.links_of_all.Goals as goal
+
+pub bounds-patterns-instance : goal.bounds-patterns-instance
+bounds-patterns-instance c =
+    let lt : c.loop-instance.instance-index < length c.args.placed.now = omega arith in
+    c.requires.there c.instance-item.result (c.loop-instance.instance-index, lt, sym c.instance-item.is)
+
+pub copy_links-requires : goal.copy_links-requires
+copy_links-requires c =
+    let lt : c.loop-instance.instance-index < length c.args.placed.now = omega arith in
+    let there = c.requires.there c.instance-item.result (c.loop-instance.instance-index, lt, sym c.instance-item.is) in
+    let row = c.index-patterns-instance.is ∙ get_or_default c.args.patterns.now c.instance-item.result.block c.index-patterns-instance.result [] there in
+    subst (LinksFit c.instance-item.result) (sym (c.as_slice.ensures ∙ ap (λ p. p) row)) (c.requires.fit c.instance-item.result (c.loop-instance.instance-index, lt, sym c.instance-item.is))
+
+pub loop-instance-preserved : goal.loop-instance-preserved
+loop-instance-preserved c =
+    let lt : c.loop-instance.instance-index < length c.args.placed.now = omega arith in
+    let there = c.requires.there c.instance-item.result (c.loop-instance.instance-index, lt, sym c.instance-item.is) in
+    let row = c.index-patterns-instance.is ∙ get_or_default c.args.patterns.now c.instance-item.result.block c.index-patterns-instance.result [] there in
+    c.in_ok-copy_links.ensures ∙ ap (λ l. l ++ map (link_copy c.instance-item.result) c.as_slice.result.now) c.loop-instance.invariant
+    ∙ ap (λ l. flat_map (link_copies c.args.patterns.now) (take c.loop-instance.instance-index c.args.placed.now) ++ map (link_copy c.instance-item.result) l) (c.as_slice.ensures ∙ ap (λ p. p) row)
+    ∙ flat_map-next (link_copies c.args.patterns.now) c.args.placed.now c.loop-instance.instance-index c.instance-item.result c.instance-item.is lt

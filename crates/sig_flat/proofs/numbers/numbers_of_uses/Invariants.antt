@@ -1,0 +1,6 @@
+use Rattle.std.proofs.Common.{◌≡◌, map, take}
+use Rattle.sig_flat.specs.Layouts.{number_of}
+use Rattle.sig_flat.proofs.numbers.numbers_of_uses.Given as goal
+
+abbrev pub invariant-loop-used : goal.invariant-loop-used
+invariant-loop-used l = l.numbers ≡ map (number_of l.names) (take l.used-index l.uses)

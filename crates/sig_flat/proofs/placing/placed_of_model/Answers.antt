@@ -1,0 +1,25 @@
+use Rattle.std.proofs.Common.{[], ◌++◌, ap, sym, ◌∙◌, subst, arith}
+use Rattle.sig_flat.specs.Placed.{placed_at, StartsFit}
+use Rattle.sig_flat.proofs.CountLaws.{top-there}
+use Rattle.sig_flat.proofs.LinkLaws.{nest-earlier}
+use Rattle.sig_flat.proofs.ModelLaws.{starts-fit}
+use Rattle.sig_flat.proofs.placing.placed_of_model.Goals as goal
+
+pub place_instances-requires-clause-block : goal.place_instances-requires-clause-block
+place_instances-requires-clause-block c =
+    let there = top-there c.args.model.now c.requires.known in
+    let top = c.requires.survey.top in
+    let long = c.requires.inners.long in
+    omega arith
+
+pub place_instances-requires-clause-earlier : goal.place_instances-requires-clause-earlier
+place_instances-requires-clause-earlier c = nest-earlier c.args.model.now c.requires.known c.args.survey.now.sizes.items c.requires.survey.sizes c.args.inners.now c.requires.inners.long c.requires.inners.nested
+
+pub place_instances-requires-clause-fits : goal.place_instances-requires-clause-fits
+place_instances-requires-clause-fits c =
+    subst (λ k. StartsFit (placed_at c.args.inners.now [] k 0)) (sym c.requires.survey.top)
+    (starts-fit c.args.model.now c.requires.known c.requires.within c.args.survey.now.sizes.items c.requires.survey.sizes c.args.inners.now c.requires.inners.long c.requires.inners.nested)
+
+pub returns : goal.returns
+returns c =
+    c.in_ok-place_instances.ensures ∙ ap (λ l. l ++ placed_at c.args.inners.now [] c.args.survey.now.top 0) c.new-placed.ensures ∙ ap (λ k. placed_at c.args.inners.now [] k 0) c.requires.survey.top

@@ -1,0 +1,74 @@
+-- What is found out about a model before it is unfolded.
+use Rattle.std.specs.Prelude.{◌≡◌, ℕ, ◌+◌, ◌-◌, ◌<◌, List, [], map, length, slice_index, slice_index_or}
+use Rattle.std.specs.List.{AllZip, Contains, flat_map}
+use Rattle.sig_types.specs.declared.model.Model.{Model}
+use Rattle.sig_types.specs.declared.model.Block.{Block}
+use Rattle.sig_types.specs.Breaches.{block_names}
+use Rattle.sig_flat.specs.declared.counts.Counts.{Counts}
+use Rattle.sig_flat.specs.declared.pattern.Pattern.{Pattern}
+use Rattle.sig_flat.specs.declared.links.LinkPattern.{LinkPattern}
+use Rattle.sig_flat.specs.declared.walk.Placed.{Placed}
+use Rattle.sig_flat.specs.Placed.{node_copies, link_copies, fault_copies, test_copies, no_pattern, LinksFit, FaultsFit, TestsFit}
+use Rattle.sig_flat.specs.Flats.{IsNodeOf, IsLinkOf, IsFaultOf, IsTestOf}
+use Rattle.sig_flat.specs.declared.survey.Survey.{Survey}
+use Rattle.sig_flat.specs.Instances.{depth, uses, nodes, links, faults, tests}
+use Rattle.sig_flat.specs.Sizes.{in_word, size}
+use Rattle.sig_flat.specs.Places.{own_names}
+use Rattle.sig_flat.specs.Words.{place_among}
+use Rattle.sig_flat.specs.Patterns.{pattern_of}
+use Rattle.sig_flat.specs.declared.inner.Inner.{Inner}
+use Rattle.sig_flat.specs.Resolved.{block_at}
+use Rattle.sig_flat.specs.Known.{use_names}
+use Rattle.sig_flat.specs.Layouts.{numbers_of_block, inners_from, link_pattern}
+
+abbrev pub numbers_of : Model → List (List ℕ)
+numbers_of model = map (numbers_of_block (block_names model)) model.blocks
+
+abbrev pub patterns_of_model : Model → List Pattern
+patterns_of_model model = map (pattern_of model.signals model.modes) model.blocks
+
+abbrev pub top_of : Model → ℕ
+top_of model = place_among (block_names model) model.top
+
+-- for each block how many nodes it has of its own
+abbrev pub own_of : Model → List ℕ
+own_of model = map (λ (b : Block). length (own_names b)) model.blocks
+
+pub record IsSurvey (model : Model) (survey : Survey) : Type 0 where
+  pub modes : survey.modes ≡ model.modes
+  pub patterns : survey.patterns.items ≡ patterns_of_model model
+  pub numbers : survey.numbers.items ≡ numbers_of model
+  pub sizes_long : length survey.sizes.items ≡ length model.blocks
+  pub sizes : (k : ℕ) → k < length model.blocks → slice_index survey.sizes.items k ≡ in_word (size (own_of model) (numbers_of model) k)
+  pub top : survey.top ≡ top_of model
+
+-- the counts of the definition, each as far as a word goes
+pub record CountsAre (model : Model) (counts : Counts) : Type 0 where
+  pub depth : counts.depth ≡ in_word (depth model)
+  pub uses : counts.uses ≡ in_word (uses model + 1) - 1
+  pub nodes : counts.nodes ≡ in_word (length (nodes model))
+  pub links : counts.links ≡ in_word (length (links model))
+  pub faults : counts.faults ≡ in_word (length (faults model))
+  pub tests : counts.tests ≡ in_word (length (tests model))
+
+-- what the copies are made from, and that their numbers fit
+pub record IsPlacing (model : Model) (placed : List Placed) (joined : List (List LinkPattern)) : Type 0 where
+  pub long : length joined ≡ length model.blocks
+  pub there : (p : Placed) → Contains placed p → p.block < length model.blocks
+  pub links_fit : (p : Placed) → Contains placed p → LinksFit p (slice_index_or joined p.block [])
+  pub faults_fit : (p : Placed) → Contains placed p → FaultsFit p (slice_index_or (patterns_of_model model) p.block no_pattern).faults
+  pub tests_fit : (p : Placed) → Contains placed p → TestsFit p (slice_index_or (patterns_of_model model) p.block no_pattern).tests
+  pub nodes : AllZip (IsNodeOf model) (nodes model) (flat_map (node_copies (patterns_of_model model)) placed)
+  pub links : AllZip (IsLinkOf model) (links model) (flat_map (link_copies joined) placed)
+  pub faults : AllZip (IsFaultOf model) (faults model) (flat_map (fault_copies (patterns_of_model model)) placed)
+  pub tests : AllZip (IsTestOf model) (tests model) (flat_map (test_copies (patterns_of_model model)) placed)
+
+-- for each block the instances inside an instance of it
+pub record AreInners (model : Model) (sizes : List ℕ) (inners : List (List Inner)) : Type 0 where
+  pub long : length inners ≡ length model.blocks
+  pub nested : (k : ℕ) → k < length model.blocks → slice_index_or inners k [] ≡ inners_from sizes (length (own_names (block_at model.blocks k))) (block_at model.blocks k).uses (slice_index_or (numbers_of model) k [])
+
+-- for each block its links
+pub record AreLinks (model : Model) (inners : List (List Inner)) (joined : List (List LinkPattern)) : Type 0 where
+  pub long : length joined ≡ length model.blocks
+  pub each : (k : ℕ) → k < length model.blocks → slice_index_or joined k [] ≡ map (link_pattern model.modes (own_names (block_at model.blocks k)) (use_names (block_at model.blocks k)) (slice_index_or inners k []) (map own_names model.blocks)) (block_at model.blocks k).links

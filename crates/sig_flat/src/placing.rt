@@ -1,0 +1,93 @@
+//! The instances of a model that is within its limits, written down by one walk, and the links of its
+//! blocks by places.
+ghost use Rattle.std.specs.Prelude.{◌≡◌, [], None, IfOk};
+ghost use Rattle.sig_flat.specs.Counts.{flat_refusal};
+ghost use Rattle.sig_flat.specs.Known.{IsKnown};
+ghost use Rattle.sig_flat.specs.Placed.{placed_at};
+ghost use Rattle.sig_flat.specs.Surveys.{top_of, IsSurvey, AreInners, AreLinks, IsPlacing};
+
+use crate::inner::Inner;
+use crate::layout::{inners_of_blocks, links_of_blocks};
+use crate::links::LinkPattern;
+use crate::numbers::places_of_blocks;
+use crate::survey::Survey;
+use crate::walk::{Placed, place_instances};
+use sig_types::{List, Model};
+use std::alloc::{AllocError, Global};
+
+/// The instances of a model, and by block its links.
+#[derive(Drop)]
+pub struct Placing {
+    pub placed: List<Placed>,
+    pub links: Vec<List<LinkPattern>>,
+}
+
+/// For each block the instances inside an instance of it.
+fn inners_of_model(
+    alloc: Global,
+    model: &Model,
+    survey: &Survey,
+) -> Result<Vec<List<Inner>>, AllocError>
+    requires known { IsKnown model.now }
+    requires survey { IsSurvey model.now survey.now }
+    ensures { IfOk result (λ inners. AreInners model.now survey.now.sizes.items inners.items) }
+{
+    let blocks = model.blocks.as_slice();
+    let numbers = survey.numbers.as_slice();
+    let patterns = survey.patterns.as_slice();
+    let sizes = survey.sizes.as_slice();
+    let inners = inners_of_blocks(alloc, blocks, numbers, patterns, sizes)?;
+    Ok(inners)
+}
+
+/// For each block its links.
+fn links_of_model(
+    alloc: Global,
+    model: &Model,
+    survey: &Survey,
+    inners: &[List<Inner>],
+) -> Result<Vec<List<LinkPattern>>, AllocError>
+    requires known { IsKnown model.now }
+    requires survey { IsSurvey model.now survey.now }
+    requires inners { AreInners model.now survey.now.sizes.items inners.now }
+    ensures { IfOk result (λ links. AreLinks model.now inners.now links.items) }
+{
+    let blocks = model.blocks.as_slice();
+    let patterns = survey.patterns.as_slice();
+    let places = places_of_blocks(alloc, patterns)?;
+    let names = places.as_slice();
+    let links = links_of_blocks(alloc, &survey.modes, &model.modes, blocks, inners, names)?;
+    Ok(links)
+}
+
+/// The instances, by one walk from the top block down.
+fn placed_of_model(
+    alloc: Global,
+    model: &Model,
+    survey: &Survey,
+    inners: &[List<Inner>],
+) -> Result<List<Placed>, AllocError>
+    requires known { IsKnown model.now }
+    requires survey { IsSurvey model.now survey.now }
+    requires inners { AreInners model.now survey.now.sizes.items inners.now }
+    requires within { flat_refusal model.now ≡ None }
+    ensures { IfOk result (λ placed. placed ≡ placed_at inners.now [] (top_of model.now) 0) }
+{
+    let mut placed = List::new(alloc);
+    place_instances(alloc, inners, "", survey.top, 0, &mut placed)?;
+    Ok(placed)
+}
+
+/// What the flat items are copied from, where the model is within its limits.
+pub fn placing_of(alloc: Global, model: &Model, survey: &Survey) -> Result<Placing, AllocError>
+    requires known { IsKnown model.now }
+    requires survey { IsSurvey model.now survey.now }
+    requires within { flat_refusal model.now ≡ None }
+    ensures { IfOk result (λ p. IsPlacing model.now p.placed p.links.items) }
+{
+    let inners = inners_of_model(alloc, model, survey)?;
+    let inside = inners.as_slice();
+    let links = links_of_model(alloc, model, survey, inside)?;
+    let placed = placed_of_model(alloc, model, survey, inside)?;
+    Ok(Placing { placed, links })
+}
