@@ -7,7 +7,8 @@ use Rattle.sig_types.specs.declared.refusals.ModelFault.{ModelFault}
 use Rattle.sig_text.specs.Document.{document_of}
 use Rattle.sig_text.specs.Tables.{document_breaches, model_of}
 use Rattle.sig_text.specs.Texts.{text_breaches, text_model}
-use Rattle.sig_text.specs.Reading.{Answers, TellsFirst}
+use Rattle.sig_types.specs.Refused.{TellsFirst}
+use Rattle.sig_text.specs.Reading.{Answers}
 use Rattle.sig_text.proofs.First.{tells}
 
 pub stands_for : (bytes : List ℕ) (table : Members) (answer : Result Model ModelFault) → document_of bytes ≡ Some table → Answers answer (document_breaches table) (model_of table) → IfOk answer (λ model. (text_breaches bytes ≡ []) × (model ≡ text_model bytes))

@@ -5,7 +5,8 @@ use Rattle.std.specs.Prelude.{slice_get}
 use Rattle.sig_types.specs.declared.refusals.Refusal.{Refusal}
 use Rattle.sig_types.specs.declared.refusals.ModelFault.{ModelFault}
 use Rattle.sig_types.specs.declared.refusals.ModelFault.TheVariants.{Refused, OutOfMemory}
-use Rattle.sig_text.specs.Reading.{BeginWith, TellsFirst}
+use Rattle.sig_types.specs.Refused.{TellsFirst}
+use Rattle.sig_text.specs.Reading.{BeginWith}
 
 first_before : (bs cs : List Refusal) (r : Refusal) → slice_get bs 0 ≡ Some r → slice_get (bs ++ cs) 0 ≡ Some r
 first_before [] cs r h = cc

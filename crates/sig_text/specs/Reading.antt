@@ -1,20 +1,11 @@
 -- What reading answers.
-use Rattle.std.specs.Prelude.{◌≡◌, ⊤, List, [], ◌∷◌, Option, Some, None, Result, Ok, Err, slice_get}
+use Rattle.std.specs.Prelude.{◌≡◌, ⊤, List, [], Some, Result, Ok, Err, slice_get}
 use Rattle.sig_types.specs.declared.refusals.Refusal.{Refusal}
 use Rattle.sig_types.specs.declared.refusals.ModelFault.{ModelFault}
 use Rattle.sig_types.specs.declared.refusals.ModelFault.TheVariants.{Refused, OutOfMemory}
 
--- the first breach, where there is one
-abbrev pub first : List Refusal → Option Refusal
-first [] = None
-first (breach ∷ rest) = Some breach
-
--- a refusal is the first of the breaches; want of memory says nothing of them
-abbrev pub TellsFirst : List Refusal → ModelFault → Type 0
-TellsFirst breaches (Refused refusal) = first breaches ≡ Some refusal
-TellsFirst breaches OutOfMemory = ⊤
-
--- the same within the reader, by std's word for the element at an index, which std's laws of lists speak of
+-- a refusal is the first of the breaches, by std's word for the element at an index, which std's laws of lists speak of; want
+-- of memory says nothing of them
 abbrev pub BeginWith : List Refusal → ModelFault → Type 0
 BeginWith breaches (Refused refusal) = slice_get breaches 0 ≡ Some refusal
 BeginWith breaches OutOfMemory = ⊤

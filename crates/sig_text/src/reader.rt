@@ -4,7 +4,7 @@
 //! do the rest.
 
 ghost use Rattle.std.specs.Prelude.{◌≡◌, [], IfOk, IfErr};
-ghost use Rattle.sig_text.specs.Reading.{TellsFirst};
+ghost use Rattle.sig_types.specs.Refused.{TellsFirst};
 ghost use Rattle.sig_text.specs.Texts.{text_breaches, text_model};
 
 use crate::tables::document_in;
