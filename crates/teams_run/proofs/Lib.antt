@@ -1,5 +1,6 @@
-pub mod SmallRowLaws
-pub mod ZipLaws
-pub mod SmallMatrixLaws
 pub mod LabelLaws
-pub mod SmallTextLaws
+pub mod RefusalLaws
+pub mod ModeLaws
+pub mod ValueLaws
+pub mod PlanLaws
+pub mod StandLaws

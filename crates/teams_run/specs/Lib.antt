@@ -1,9 +1,10 @@
 pub mod RefusalText
 pub mod Statuses
 pub mod Plans
-pub mod SmallMatrix
-pub mod PlacedTests
-pub mod SmallRows
+pub mod Chosen
+pub mod Accepted
 pub mod Solved
+pub mod Ready
+pub mod Judged
 pub mod Texts
 pub mod Runs

@@ -1,17 +1,20 @@
 -- What solving a system means, in words of single states, and its report.
-use Rattle.std.specs.Prelude.{◌≡◌, ⊤, ℕ, ◌<◌, List, [], None}
+use Rattle.std.specs.Prelude.{◌≡◌, ⊤, ℕ, ◌<◌, ◌≤◌, List, length}
 use Rattle.seq_theory.specs.Problem.{Problem, all_classes}
 use Rattle.seq_theory.specs.Tree.{Tree, tree_cost, Solves, IsLeast}
-use Rattle.seq_theory.specs.States.{System, state_problem, IsOfClasses}
+use Rattle.seq_theory.specs.States.{System, state_problem, firsts, IsOfClasses}
 use Rattle.seq_inst.specs.declared.outcome.Outcome.{Outcome}
-use Rattle.seq_inst.specs.declared.outcome.Verdict.TheVariants.{Optimal}
+use Rattle.seq_inst.specs.declared.outcome.Verdict.{Verdict}
+use Rattle.seq_inst.specs.declared.outcome.Verdict.TheVariants.{Optimal, Bounded}
 use Rattle.seq_inst.specs.Trees.{tree_of}
+use Rattle.sig_types.specs.declared.refusals.Refusal.{Refusal}
 use Rattle.sig_types.specs.declared.refusals.ModelFault.{ModelFault}
 use Rattle.sig_types.specs.declared.refusals.ModelFault.TheVariants.{Refused, OutOfMemory}
 use Rattle.sig_types.specs.declared.refusals.Code.TheVariants.{M13}
 use Rattle.sig_types.specs.declared.refusals.Place.TheVariants.{Count}
 use Rattle.sig_types.specs.declared.refusals.Counted.TheVariants.{Classes as ManyClasses}
 use Rattle.sig_lines.specs.declared.labels.Labels.{Labels}
+use Rattle.seq_finish.specs.Outcomes.{IsRightOutcome}
 use Rattle.seq_cert.specs.Text.{report_bytes}
 use Rattle.seq_cert.specs.OutcomeReport.{report_from}
 
@@ -31,26 +34,37 @@ state_cost sys tree = tree_cost (state_problem sys) tree (all_states sys)
 abbrev pub IsLeastFor : System → ℕ → Type 0
 IsLeastFor sys cost = IsLeast (state_problem sys) (all_states sys) cost
 
--- the outcome has a right strategy, its cost, and a proof that no right strategy costs less: its low is the cost
-pub record IsOptimal (sys : System) (o : Outcome) : Type 0 where
+-- how many groups a search may enter
+abbrev pub IsLimit : ℕ → Type 0
+IsLimit groups = (1 ≤ groups) × (groups ≤ 32768)
+
+-- the outcome's strategy is right for all states and costs its cost; the least cost lies between its low and its cost, and is
+-- the cost where the verdict is Optimal
+pub record Stands (sys : System) (o : Outcome) : Type 0 where
   pub right : IsRightFor sys (tree_of o.strategy)
   pub costs : o.cost ≡ state_cost sys (tree_of o.strategy)
-  pub least : IsLeastFor sys o.cost
-  pub low : o.low ≡ o.cost
-  pub verdict : o.verdict ≡ Optimal
-  pub none_missed : o.missed ≡ None
+  pub least : ℕ
+  pub is_least : IsLeastFor sys least
+  pub low : o.low ≤ least
+  pub high : least ≤ o.cost
+  pub optimal : o.verdict ≡ Optimal → o.cost ≡ least
+  pub bounded : o.verdict ≡ Bounded → o.low < o.cost
 
--- the text is the report of such an outcome over the system's ambiguity groups, under these labels; no group was entered
-pub record IsSolution (sys : System) (labels : Labels) (groups : ℕ) (text : List ℕ) : Type 0 where
+-- the text is the report of a right outcome over the system's ambiguity groups, under these labels, with this limit
+pub record IsSolution (sys : System) (labels : Labels) (groups : ℕ) (verdict : Verdict) (text : List ℕ) : Type 0 where
   pub problem : Problem
   pub classes : IsOfClasses sys problem
   pub outcome : Outcome
-  pub optimal : IsOptimal sys outcome
-  pub limit : outcome.limit ≡ groups
-  pub none_entered : outcome.rows.items ≡ []
+  pub right : IsRightOutcome problem groups outcome
+  pub stands : Stands sys outcome
+  pub verdict_is : outcome.verdict ≡ verdict
   pub report : text ≡ report_bytes (report_from problem outcome labels)
 
--- a system is refused where it has more than 512 ambiguity groups; want of memory may come at any time
-abbrev pub TellsMany : ℕ → ModelFault → Type 0
-TellsMany classes (Refused refusal) = (512 < classes) × (refusal ≡ record { code = M13; place = Count ManyClasses })
-TellsMany classes OutOfMemory = ⊤
+-- why a system isn't solved: it has more than 512 ambiguity groups
+abbrev pub IsUnsolved : System → Refusal → Type 0
+IsUnsolved sys refusal = (512 < length (firsts sys)) × (refusal ≡ record { code = M13; place = Count ManyClasses })
+
+-- why no report came out; want of memory may come at any time
+abbrev pub TellsUnsolved : System → ModelFault → Type 0
+TellsUnsolved sys (Refused refusal) = IsUnsolved sys refusal
+TellsUnsolved sys OutOfMemory = ⊤

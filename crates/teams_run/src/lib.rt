@@ -1,13 +1,17 @@
 //! The top call: it reads the words of the command line, fetches the model, and writes the strategy or
-//! the refusal. It sees every layer and has no algorithm of its own but for the matrix of a small block,
-//! which the general matrix will replace. The theorem of the whole program is the contract of `run`.
+//! the refusal. It sees every layer and has no algorithm of its own. The theorem of the whole program is the
+//! contract of `run`.
 #![tactic(auto)]
 
+mod accepting;
+mod answering;
+mod due;
+mod judging;
 mod plan;
-mod reading;
+mod preparing;
+mod pushing;
 mod refusing;
 mod running;
-mod small_matrix;
 mod solving;
 mod status;
 
@@ -17,3 +21,5 @@ pub use status::Status;
 
 #[cfg(test)]
 mod tests;
+#[cfg(test)]
+mod texts;

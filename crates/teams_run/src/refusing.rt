@@ -3,7 +3,7 @@
 ghost use Rattle.std.specs.Prelude.{◌≡◌, ◌++◌, OnOk, IfOk};
 ghost use Rattle.teams_run.specs.RefusalText.{code_word, counted_word, kind_word, key_word, numbered, key_step, item_step, test_step, last_step, spot_word, place_word, refusal_line};
 
-use itoa::Buffer;
+use crate::pushing::{push_decimal, push_text};
 use sig_types::{Code, Counted, Key, Kind, Place, Refusal};
 use std::alloc::{AllocError, Global};
 
@@ -86,12 +86,6 @@ fn key_word(key: Key) -> &'static str
     }
 }
 
-fn push_text(out: &mut Vec<u8>, text: &str) -> Result<(), AllocError>
-    ensures { OnOk result (out.new.items ≡ out.old.items ++ text.now) }
-{
-    out.extend_from_slice(text.as_bytes())
-}
-
 fn push_numbered(out: &mut Vec<u8>, word: &str, number: Option<u64>) -> Result<(), AllocError>
     ensures { OnOk result (out.new.items ≡ out.old.items ++ numbered word.now number) }
 {
@@ -99,9 +93,8 @@ fn push_numbered(out: &mut Vec<u8>, word: &str, number: Option<u64>) -> Result<(
     let Some(number) = number else {
         return Ok(());
     };
-    let mut digits = Buffer::new();
     push_text(out, "[")?;
-    push_text(out, digits.format(number))?;
+    push_decimal(out, number)?;
     push_text(out, "]")
 }
 

@@ -1,61 +1,108 @@
 //! The calls that the program makes. `run` reads the words of the command line and does what they ask;
 //! `run_quiet` does what a plan asks, on one thread. A text is made whole before the first write.
-ghost use Rattle.std.specs.Prelude.{◌≡◌, ◌≢◌, ◌≤◌, ◌⊎◌, None, map, string_bytes, IfOk, IfErr};
+ghost use Rattle.std.specs.Prelude.{◌≡◌, ◌≢◌, ◌≤◌, ◌⊎◌, None, map, string_bytes, IfOk, IsErrOf, IsSome, length};
 ghost use Rattle.sig_edge.specs.Causes.{Rose};
 ghost use Rattle.sig_edge.specs.Shelf.{HoldsNone, HoldsLonger};
-ghost use Rattle.sig_text.specs.Document.{document_of};
-ghost use Rattle.sig_text.specs.Reading.{TellsWhy};
 ghost use Rattle.teams_run.specs.Plans.{plan_of};
-ghost use Rattle.teams_run.specs.Texts.{IsDue, IsSolved};
-ghost use Rattle.teams_run.specs.Runs.{WritesDue, WritesPart, IsSilent, ForPlan, model_limit};
+ghost use Rattle.teams_run.specs.RefusalText.{refusal_line};
+ghost use Rattle.teams_run.specs.Texts.{IsDue, cert_limit, cert_name};
+ghost use Rattle.teams_run.specs.Runs.{IsDueText, WritesDue, WritesPart, IsSilent, IsProper, ForPlan, HasLongFile, LacksFile};
 
-use crate::plan::{Plan, PlanFault, plan_of};
-use crate::reading::matrix_of_text;
+use crate::answering::{answer_for, mode_word, prepared_for};
+use crate::due::Due;
+use crate::judging::judgement_on;
+use crate::plan::{Action, Plan, PlanFault, plan_of};
 use crate::refusing::refusal_text;
-use crate::solving::solution_text;
 use crate::status::Status;
 use sig_edge::{FetchFault, Shelf, Sink, fetch, put_all};
-use sig_types::ModelFault;
-use std::alloc::{AllocError, Global};
+use sig_types::{ModelFault, Refusal};
+use std::alloc::Global;
 
-/// A text that is due to be written, and the status that goes with it.
-#[derive(Drop)]
-struct Due {
-    status: Status,
-    text: Vec<u8>,
-}
-
-/// The report of a strategy of least cost for the system that the bytes describe.
-fn solved_text(alloc: Global, plan: &Plan, content: &[u8]) -> Result<Vec<u8>, ModelFault>
-    ensures solved { IfOk result (λ text. IsSolved plan.now content.now text.items) }
-    ensures refused { IfErr result (TellsWhy (document_of content.now)) }
+/// The line of a refusal.
+fn refused(alloc: Global, refusal: Refusal) -> Result<Due, FetchFault>
+    ensures status { IfOk result (λ due. due.status ≡ Status.ModelRefused) }
+    ensures line { IfOk result (λ due. due.text.items ≡ refusal_line refusal) }
+    ensures missing { IsErrOf result FetchFault.Missing → ⊥ }
+    ensures failed { IsErrOf result FetchFault.Failed → ⊥ }
+    ensures too_long { IsErrOf result FetchFault.TooLong → ⊥ }
 {
-    let matrix = matrix_of_text(alloc, content)?;
-    match solution_text(alloc, &matrix, "-", plan.groups) {
-        Ok(text) => Ok(text),
-        Err(ModelFault::OutOfMemory) => Err(ModelFault::OutOfMemory),
-        // So few faults have no more than 65 ambiguity groups.
-        Err(ModelFault::Refused(_)) => unreachable!(),
+    match refusal_text(alloc, refusal) {
+        Ok(text) => Ok(Due {
+            status: Status::ModelRefused,
+            text,
+        }),
+        Err(_) => Err(FetchFault::OutOfMemory),
     }
 }
 
-/// What is due for the bytes of a model.
-fn due_for(alloc: Global, plan: &Plan, content: &[u8]) -> Result<Due, AllocError>
-    ensures { IfOk result (λ due. IsDue plan.now content.now due.status due.text.items) }
+/// What is due where the plan needs no certificate.
+fn answer_due<D: Shelf>(
+    alloc: Global,
+    plan: &Plan,
+    content: &[u8],
+    shelf: &D,
+) -> Result<Due, FetchFault>
+    requires proper { IsProper plan.now }
+    requires alone { plan.now.action ≢ Action.Check }
+    ensures due { IfOk result (λ due. IsDue plan.now (D.holds shelf.now) content.now due.status due.text.items) }
+    ensures missing { IsErrOf result FetchFault.Missing → ⊥ }
+    ensures failed { IsErrOf result FetchFault.Failed → ⊥ }
+    ensures too_long { IsErrOf result FetchFault.TooLong → ⊥ }
 {
-    match solved_text(alloc, plan, content) {
-        Ok(text) => Ok(Due {
-            status: Status::Done,
-            text,
-        }),
-        Err(ModelFault::Refused(refusal)) => {
-            let text = refusal_text(alloc, refusal)?;
-            Ok(Due {
-                status: Status::ModelRefused,
-                text,
-            })
-        }
-        Err(ModelFault::OutOfMemory) => Err(AllocError),
+    match answer_for(alloc, plan, content) {
+        Ok(due) => Ok(due),
+        Err(ModelFault::Refused(refusal)) => refused(alloc, refusal),
+        Err(ModelFault::OutOfMemory) => Err(FetchFault::OutOfMemory),
+    }
+}
+
+/// What is due for a certificate, which is fetched once the model is accepted.
+fn check_due<D: Shelf>(
+    alloc: Global,
+    plan: &Plan,
+    content: &[u8],
+    shelf: &mut D,
+) -> Result<Due, FetchFault>
+    requires action { plan.now.action ≡ Action.Check }
+    requires cert { IsSome plan.now.cert }
+    ensures due { IfOk result (λ due. IsDue plan.now (D.holds shelf.old) content.now due.status due.text.items) }
+    ensures missing { IsErrOf result FetchFault.Missing → Rose (D.misses shelf.old) (D.misses shelf.new) }
+    ensures missing_held { IsErrOf result FetchFault.Missing → HoldsNone (D.holds shelf.old) (cert_name plan.now) }
+    ensures failed { IsErrOf result FetchFault.Failed → Rose (D.faults shelf.old) (D.faults shelf.new) }
+    ensures too_long { IsErrOf result FetchFault.TooLong → HoldsLonger (D.holds shelf.old) (cert_name plan.now) cert_limit }
+    ensures same { D.holds shelf.new ≡ D.holds shelf.old }
+{
+    let (accepted, prepared) = match prepared_for(alloc, plan, content) {
+        Ok(both) => both,
+        Err(ModelFault::Refused(refusal)) => return refused(alloc, refusal),
+        Err(ModelFault::OutOfMemory) => return Err(FetchFault::OutOfMemory),
+    };
+    let name = match &plan.cert {
+        Some(name) => name.as_str(),
+        None => unreachable!(),
+    };
+    let cert = fetch(alloc, shelf, name, 16_777_216)?;
+    let mode = mode_word(plan.mode.as_ref());
+    match judgement_on(alloc, &accepted.matrix, &prepared, mode, cert.as_slice()) {
+        Ok(due) => Ok(due),
+        Err(_) => Err(FetchFault::OutOfMemory),
+    }
+}
+
+/// What is due for the files that the shelf holds.
+fn due_for<D: Shelf>(alloc: Global, plan: &Plan, shelf: &mut D) -> Result<Due, FetchFault>
+    requires proper { IsProper plan.now }
+    ensures due { IfOk result (λ due. IsDueText plan.now (D.holds shelf.old) due.status due.text.items) }
+    ensures missing { IsErrOf result FetchFault.Missing → Rose (D.misses shelf.old) (D.misses shelf.new) × LacksFile plan.now (D.holds shelf.old) }
+    ensures failed { IsErrOf result FetchFault.Failed → Rose (D.faults shelf.old) (D.faults shelf.new) }
+    ensures too_long { IsErrOf result FetchFault.TooLong → HasLongFile plan.now (D.holds shelf.old) }
+    ensures same { D.holds shelf.new ≡ D.holds shelf.old }
+{
+    let content = fetch(alloc, shelf, plan.model.as_str(), 1_048_576)?;
+    if plan.action == Action::Check {
+        check_due(alloc, plan, content.as_slice(), shelf)
+    } else {
+        answer_due(alloc, plan, content.as_slice(), shelf)
     }
 }
 
@@ -66,32 +113,32 @@ pub fn run_quiet<D: Shelf, K: Sink>(
     shelf: &mut D,
     sink: &mut K,
 ) -> Status
+    requires { IsProper plan.now }
+
     // What is written.
-    ensures solved { result ≡ Status.Done → WritesDue plan.now (D.holds shelf.old) (K.wrote sink.old) (K.wrote sink.new) Status.Done }
+    ensures done { result ≡ Status.Done → WritesDue plan.now (D.holds shelf.old) (K.wrote sink.old) (K.wrote sink.new) Status.Done }
+    ensures bounded { result ≡ Status.Bounded → WritesDue plan.now (D.holds shelf.old) (K.wrote sink.old) (K.wrote sink.new) Status.Bounded }
+    ensures rejected { result ≡ Status.Rejected → WritesDue plan.now (D.holds shelf.old) (K.wrote sink.old) (K.wrote sink.new) Status.Rejected }
     ensures refused { result ≡ Status.ModelRefused → WritesDue plan.now (D.holds shelf.old) (K.wrote sink.old) (K.wrote sink.new) Status.ModelRefused }
     ensures cut_off { result ≡ Status.WriteFault → WritesPart plan.now (D.holds shelf.old) (K.wrote sink.old) (K.wrote sink.new) }
     ensures silent { IsSilent result → K.wrote sink.new ≡ K.wrote sink.old }
 
     // Why it ended otherwise.
-    ensures missing { result ≡ Status.Missing → Rose (D.misses shelf.old) (D.misses shelf.new) × HoldsNone (D.holds shelf.old) plan.now.model }
+    ensures missing { result ≡ Status.Missing → Rose (D.misses shelf.old) (D.misses shelf.new) × LacksFile plan.now (D.holds shelf.old) }
     ensures read_fault { result ≡ Status.ReadFault → Rose (D.faults shelf.old) (D.faults shelf.new) }
-    ensures too_long { result ≡ Status.TooLong → HoldsLonger (D.holds shelf.old) plan.now.model model_limit }
+    ensures too_long { result ≡ Status.TooLong → HasLongFile plan.now (D.holds shelf.old) }
     ensures write_fault { result ≡ Status.WriteFault → Rose (K.faults sink.old) (K.faults sink.new) }
     ensures never_usage { result ≢ Status.Usage }
 
     // What stays.
     ensures same { D.holds shelf.new ≡ D.holds shelf.old }
 {
-    let content = match fetch(alloc, shelf, plan.model.as_str(), 1_048_576) {
-        Ok(content) => content,
+    let due = match due_for(alloc, plan, shelf) {
+        Ok(due) => due,
         Err(FetchFault::Missing) => return Status::Missing,
         Err(FetchFault::Failed) => return Status::ReadFault,
         Err(FetchFault::TooLong) => return Status::TooLong,
         Err(FetchFault::OutOfMemory) => return Status::NoMemory,
-    };
-    let due = match due_for(alloc, plan, content.as_slice()) {
-        Ok(due) => due,
-        Err(_) => return Status::NoMemory,
     };
     match put_all(sink, due.text.as_slice()) {
         Ok(()) => due.status,
@@ -107,7 +154,9 @@ pub fn run<D: Shelf, K: Sink>(
     sink: &mut K,
 ) -> Status
     // What is written, for the plan that the words give.
-    ensures solved { result ≡ Status.Done → ForPlan (plan_of (map string_bytes words.now)) (λ plan. WritesDue plan (D.holds shelf.old) (K.wrote sink.old) (K.wrote sink.new) Status.Done) }
+    ensures done { result ≡ Status.Done → ForPlan (plan_of (map string_bytes words.now)) (λ plan. WritesDue plan (D.holds shelf.old) (K.wrote sink.old) (K.wrote sink.new) Status.Done) }
+    ensures bounded { result ≡ Status.Bounded → ForPlan (plan_of (map string_bytes words.now)) (λ plan. WritesDue plan (D.holds shelf.old) (K.wrote sink.old) (K.wrote sink.new) Status.Bounded) }
+    ensures rejected { result ≡ Status.Rejected → ForPlan (plan_of (map string_bytes words.now)) (λ plan. WritesDue plan (D.holds shelf.old) (K.wrote sink.old) (K.wrote sink.new) Status.Rejected) }
     ensures refused { result ≡ Status.ModelRefused → ForPlan (plan_of (map string_bytes words.now)) (λ plan. WritesDue plan (D.holds shelf.old) (K.wrote sink.old) (K.wrote sink.new) Status.ModelRefused) }
     ensures cut_off { result ≡ Status.WriteFault → ForPlan (plan_of (map string_bytes words.now)) (λ plan. WritesPart plan (D.holds shelf.old) (K.wrote sink.old) (K.wrote sink.new)) }
     ensures silent { IsSilent result → K.wrote sink.new ≡ K.wrote sink.old }
@@ -115,9 +164,9 @@ pub fn run<D: Shelf, K: Sink>(
     // Why it ended otherwise.
     ensures usage { result ≡ Status.Usage → plan_of (map string_bytes words.now) ≡ None }
     ensures only_usage { plan_of (map string_bytes words.now) ≡ None → (result ≡ Status.Usage) ⊎ (result ≡ Status.NoMemory) }
-    ensures missing { result ≡ Status.Missing → Rose (D.misses shelf.old) (D.misses shelf.new) × ForPlan (plan_of (map string_bytes words.now)) (λ plan. HoldsNone (D.holds shelf.old) plan.model) }
+    ensures missing { result ≡ Status.Missing → Rose (D.misses shelf.old) (D.misses shelf.new) × ForPlan (plan_of (map string_bytes words.now)) (λ plan. LacksFile plan (D.holds shelf.old)) }
     ensures read_fault { result ≡ Status.ReadFault → Rose (D.faults shelf.old) (D.faults shelf.new) }
-    ensures too_long { result ≡ Status.TooLong → ForPlan (plan_of (map string_bytes words.now)) (λ plan. HoldsLonger (D.holds shelf.old) plan.model model_limit) }
+    ensures too_long { result ≡ Status.TooLong → ForPlan (plan_of (map string_bytes words.now)) (λ plan. HasLongFile plan (D.holds shelf.old)) }
     ensures write_fault { result ≡ Status.WriteFault → Rose (K.faults sink.old) (K.faults sink.new) }
 
     // What stays.

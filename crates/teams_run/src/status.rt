@@ -1,7 +1,7 @@
 //! How a call of the program ends, with the number that the process ends with.
 ghost use Rattle.std.specs.Prelude.{◌≡◌};
 
-/// How the program ended. Statuses 0 and 1 say that the sink took the whole text.
+/// How the program ended. Statuses 0, 1, 3 and 7 say that the sink took the whole text.
 #[derive(Clone, Copy, Debug, PartialEq, Eq)]
 pub enum Status {
     /// The action succeeded, and its text was written.
@@ -10,12 +10,16 @@ pub enum Status {
     ModelRefused,
     /// The words aren't a plan.
     Usage,
+    /// The limit of groups was met, and a right strategy with its gap was written.
+    Bounded,
     /// The shelf failed.
     ReadFault,
     /// The sink failed, and took a part of the text.
     WriteFault,
     /// Memory was refused.
     NoMemory,
+    /// The certificate has a bad line, which was named.
+    Rejected,
     /// There is no such file.
     Missing,
     /// A file is longer than its limit.
@@ -33,9 +37,11 @@ impl Status {
             Status::Done => 0,
             Status::ModelRefused => 1,
             Status::Usage => 2,
+            Status::Bounded => 3,
             Status::ReadFault => 4,
             Status::WriteFault => 5,
             Status::NoMemory => 6,
+            Status::Rejected => 7,
             Status::Missing => 8,
             Status::TooLong => 9,
         }

@@ -1,55 +1,27 @@
-//! The program on worked texts, through the shelf and the sink in memory: printed bytes, each fault, and
-//! the statuses that go with them. Expected values were computed by hand.
+//! The program on worked texts, through the shelf and the sink in memory: printed bytes, each refusal and
+//! each fault, and the statuses that go with them. Expected values come from outside the program.
 use super::*;
+use crate::texts::*;
 use sig_edge::{MemShelf, MemSink};
 use std::alloc::{AllocError, Global};
 use std::test::Fail;
 
-const BOX: &str =
-    "version = 1\ngood = 6\ntop = \"box\"\nsignals = [\"s\"]\n\n[[block]]\nname = \"box\"\npart = [\n  {name = \"A\", functional = 3, signals = [\"s\"]},\n  {name = \"B\", functional = 1, signals = [\"s\"]},\n]\npoint = [\n  {name = \"X\", test = [{name = \"tA\", cost = 2, signals = [\"s\"]}]},\n  {name = \"Y\", test = [{name = \"tB\", cost = 1, signals = [\"s\"]}]},\n]\nlink = [{from = \"A\", to = \"X\"}, {from = \"B\", to = \"Y\"}]\n";
-
-const BOX_REPORT: &str =
-    "teams report 1\nmode -\nstates 3\nclasses 3\ntests 2\nweight 10\nresult optimal\ncost 27\nlow 27\ngap 0\nlimit 4000\ngroups 0\nclass 0 6 1\nstate 6 good\nclass 1 3 1\nstate 3 A.f\nclass 2 1 1\nstate 1 B.f\ntest 0 2 X/tA\ntest 1 1 Y/tB\nask 0\nask 1\nleaf 0\nleaf 2\nleaf 1\nend\n";
-
-const RING: &str =
-    "version = 1\ngood = 1\ntop = \"ring\"\nsignals = [\"s\"]\n\n[[block]]\nname = \"ring\"\npart = [\n  {name = \"A\", functional = 1, signals = [\"s\"]},\n  {name = \"B\", functional = 1, signals = [\"s\"]},\n]\npoint = [{name = \"X\", test = [{name = \"t\", cost = 1, signals = [\"s\"]}]}]\nlink = [{from = \"A\", to = \"B\"}, {from = \"B\", to = \"A\"}, {from = \"B\", to = \"X\"}]\n";
-
-/// No test at all: one class of three states.
-const UNTESTED: &str =
-    "version = 1\ngood = 3\ntop = \"b\"\nsignals = [\"s\"]\n[[block]]\nname = \"b\"\npart = [{name = \"A\", functional = 2, signals = [\"s\"]}, {name = \"B\", functional = 1, signals = [\"s\"]}]\n";
-
-const UNTESTED_REPORT: &str =
-    "teams report 1\nmode -\nstates 3\nclasses 1\ntests 0\nweight 6\nresult optimal\ncost 0\nlow 0\ngap 0\nlimit 4000\ngroups 0\nclass 0 6 3\nstate 3 good\nstate 2 A.f\nstate 1 B.f\nleaf 0\nend\n";
-
-/// A fault that no test sees stays with no fault.
-const UNSEEN: &str =
-    "version = 1\ngood = 2\ntop = \"b\"\nsignals = [\"s\"]\n[[block]]\nname = \"b\"\npart = [{name = \"A\", functional = 3, signals = [\"s\"]}, {name = \"B\", functional = 4, signals = [\"s\"]}]\npoint = [{name = \"X\", test = [{name = \"t\", cost = 1, signals = [\"s\"]}]}]\nlink = [{from = \"A\", to = \"X\"}]\n";
-
-const UNSEEN_REPORT: &str =
-    "teams report 1\nmode -\nstates 3\nclasses 2\ntests 1\nweight 9\nresult optimal\ncost 9\nlow 9\ngap 0\nlimit 4000\ngroups 0\nclass 0 6 2\nstate 2 good\nstate 4 B.f\nclass 1 3 1\nstate 3 A.f\ntest 0 1 X/t\nask 0\nleaf 0\nleaf 1\nend\n";
-
-/// Without a state of no fault one fault is the one state, and nothing is asked.
-const ALONE: &str =
-    "version = 1\ngood = 0\ntop = \"b\"\nsignals = [\"s\"]\n[[block]]\nname = \"b\"\npart = [{name = \"A\", functional = 5, signals = [\"s\"]}]\npoint = [{name = \"X\", test = [{name = \"t\", cost = 1, signals = [\"s\"]}]}]\nlink = [{from = \"A\", to = \"X\"}]\n";
-
-const ALONE_REPORT: &str =
-    "teams report 1\nmode -\nstates 1\nclasses 1\ntests 1\nweight 5\nresult optimal\ncost 0\nlow 0\ngap 0\nlimit 4000\ngroups 0\nclass 0 5 1\nstate 5 A.f\ntest 0 1 X/t\nleaf 0\nend\n";
-
-fn words(alloc: Global, name: &str) -> Result<Vec<String>, AllocError> {
+fn words_of(alloc: Global, texts: &[&str]) -> Result<Vec<String>, AllocError> {
     let mut words = Vec::new(alloc);
-    words.push(String::from_str(alloc, "solve")?)?;
-    words.push(String::from_str(alloc, name)?)?;
+    for text in texts {
+        words.push(String::from_str(alloc, text)?)?;
+    }
     Ok(words)
 }
 
-/// How `solve` ends on a held text, and what it writes.
-fn solved(alloc: Global, text: &[u8]) -> Result<(Status, Vec<u8>), AllocError> {
+/// How a command on the held text ends, and what it writes.
+fn ran(alloc: Global, words: &[&str], text: &[u8]) -> Result<(Status, Vec<u8>), AllocError> {
     let mut shelf = MemShelf::new(alloc, Vec::new(alloc));
     shelf.add("m.toml", text)?;
-    let mut sink = MemSink::new(alloc, 4096, 4096, Vec::new(alloc))?;
+    let mut sink = MemSink::new(alloc, 65_536, 65_536, Vec::new(alloc))?;
     let status = run(
         alloc,
-        words(alloc, "m.toml")?.as_slice(),
+        words_of(alloc, words)?.as_slice(),
         &mut shelf,
         &mut sink,
     );
@@ -67,7 +39,8 @@ fn faulty(
     let mut shelf = MemShelf::new(alloc, fail_reads);
     shelf.add("m.toml", BOX.as_bytes())?;
     let mut sink = MemSink::new(alloc, 4096, 10, fail_writes)?;
-    let status = run(alloc, words(alloc, name)?.as_slice(), &mut shelf, &mut sink);
+    let words = words_of(alloc, &["solve", name])?;
+    let status = run(alloc, words.as_slice(), &mut shelf, &mut sink);
     let wrote = Vec::from_slice(alloc, sink.wrote())?;
     Ok((status, wrote))
 }
@@ -77,11 +50,14 @@ fn reports(rt: HostRuntime) -> Result<(), Fail> {
     let alloc = rt.alloc();
     for (text, report) in [
         (BOX, BOX_REPORT),
+        (CHAIN, CHAIN_REPORT),
         (UNTESTED, UNTESTED_REPORT),
         (UNSEEN, UNSEEN_REPORT),
         (ALONE, ALONE_REPORT),
+        (RING, RING_REPORT),
+        (RADIO, RADIO_REPORT),
     ] {
-        let (status, wrote) = solved(alloc, text.as_bytes())?;
+        let (status, wrote) = ran(alloc, &["solve", "m.toml"], text.as_bytes())?;
         assert_eq!(rt; status.number(), 0);
         assert_eq!(rt; wrote.as_slice(), report.as_bytes());
     }
@@ -89,20 +65,86 @@ fn reports(rt: HostRuntime) -> Result<(), Fail> {
 }
 
 #[test]
+fn matrices_and_figures(rt: HostRuntime) -> Result<(), Fail> {
+    let alloc = rt.alloc();
+    for (action, text, printed) in [
+        ("matrix", BOX, BOX_MATRIX),
+        ("matrix", ONE_PATH, ONE_PATH_MATRIX),
+        ("matrix", TWO_PATHS, TWO_PATHS_MATRIX),
+        ("matrix", FEED, FEED_MATRIX),
+        ("figures", RING, RING_FIGURES),
+        ("figures", UNSEEN, UNSEEN_FIGURES),
+        ("figures", TWINS, TWINS_FIGURES),
+    ] {
+        let (status, wrote) = ran(alloc, &[action, "m.toml"], text.as_bytes())?;
+        assert_eq!(rt; status.number(), 0);
+        assert_eq!(rt; wrote.as_slice(), printed.as_bytes());
+    }
+    let words = ["matrix", "m.toml", "--mode=backup"];
+    let (status, wrote) = ran(alloc, &words, FEED.as_bytes())?;
+    assert_eq!(rt; status.number(), 0);
+    assert_eq!(rt; wrote.as_slice(), BACKUP_MATRIX.as_bytes());
+    Ok(())
+}
+
+#[test]
 fn refusals(rt: HostRuntime) -> Result<(), Fail> {
     let alloc = rt.alloc();
-    let (status, wrote) = solved(alloc, RING.as_bytes())?;
+    for (text, line) in [
+        ("version = 1\ngood = ", "refused M01 at document\n"),
+        ("version = 1\ngood = 6", "refused M03 at top\n"),
+        ("version = 2\n", "refused M02 at version\n"),
+        (COLOURED, "refused M04 at block[0].part[0]\n"),
+        (HEAVY, "refused M09 at block[0].part[0].functional\n"),
+        (LATER_BLOCK, "refused M10 at block[0].use[0].block\n"),
+        (OWN_BLOCK, "refused M10 at block[0].use[0].block\n"),
+        (MODELESS, "refused M12 at block[0].link[0]\n"),
+        (STATELESS, "refused M14 at states\n"),
+        (SEVEN_TESTS, "refused later at document\n"),
+    ] {
+        let (status, wrote) = ran(alloc, &["solve", "m.toml"], text.as_bytes())?;
+        assert_eq!(rt; wrote.as_slice(), line.as_bytes());
+        assert_eq!(rt; status.number(), 1);
+    }
+    let words = ["matrix", "m.toml", "--mode=zzz"];
+    let (status, wrote) = ran(alloc, &words, FEED.as_bytes())?;
     assert_eq!(rt; status.number(), 1);
-    assert_eq!(rt; wrote.as_slice(), b"refused later at document\n".as_slice());
-    let (status, wrote) = solved(alloc, b"version = 1\ngood = 6")?;
-    assert_eq!(rt; status.number(), 1);
-    assert_eq!(rt; wrote.as_slice(), b"refused later at document\n".as_slice());
-    let (status, wrote) = solved(alloc, b"version = 1\ngood = ")?;
-    assert_eq!(rt; status.number(), 1);
-    assert_eq!(rt; wrote.as_slice(), b"refused M01 at document\n".as_slice());
+    assert_eq!(rt; wrote.as_slice(), b"refused M15 at mode\n".as_slice());
     for end in 0..BOX.len() {
-        let (status, _wrote) = solved(alloc, &BOX.as_bytes()[..end])?;
+        let (status, _wrote) = ran(alloc, &["solve", "m.toml"], &BOX.as_bytes()[..end])?;
         assert!(rt; status.number() <= 1, "cut after {end} bytes");
+    }
+    Ok(())
+}
+
+#[test]
+fn commands(rt: HostRuntime) -> Result<(), Fail> {
+    let alloc = rt.alloc();
+    let text = BOX.as_bytes();
+    for words in [
+        ["solve", "m.toml", "--workers=0", "--mode=normal"].as_slice(),
+        ["matrix", "m.toml", "--mode=normal"].as_slice(),
+        ["figures", "m.toml"].as_slice(),
+    ] {
+        let (status, _wrote) = ran(alloc, words, text)?;
+        assert_eq!(rt; status.number(), 0);
+    }
+    for words in [
+        [].as_slice(),
+        ["solve"].as_slice(),
+        ["prove", "m.toml"].as_slice(),
+        ["solve", "-m"].as_slice(),
+        ["solve", ""].as_slice(),
+        ["solve", "m.toml", "x"].as_slice(),
+        ["solve", "m.toml", "--mode="].as_slice(),
+        ["solve", "m.toml", "--workers=17"].as_slice(),
+        ["solve", "m.toml", "--mode=normal", "--workers=0"].as_slice(),
+        ["solve", "m.toml", "--mode=normal", "--mode=normal"].as_slice(),
+        ["matrix", "m.toml", "--workers=0"].as_slice(),
+    ] {
+        let (status, wrote) = ran(alloc, words, text)?;
+        assert_eq!(rt; status.number(), 2);
+        assert_eq!(rt; wrote.len(), 0);
     }
     Ok(())
 }
@@ -120,9 +162,6 @@ fn faults(rt: HostRuntime) -> Result<(), Fail> {
     let (status, wrote) = faulty(alloc, "other.toml", none(), none())?;
     assert_eq!(rt; status.number(), 8);
     assert_eq!(rt; wrote.len(), 0);
-    let (status, wrote) = faulty(alloc, "-", none(), none())?;
-    assert_eq!(rt; status.number(), 2);
-    assert_eq!(rt; wrote.len(), 0);
     Ok(())
 }
 
@@ -133,12 +172,62 @@ fn lengths(rt: HostRuntime) -> Result<(), Fail> {
     for _ in BOX.len()..1_048_576 {
         text.push(b'\n')?;
     }
-    let (status, wrote) = solved(alloc, text.as_slice())?;
+    let (status, wrote) = ran(alloc, &["solve", "m.toml"], text.as_slice())?;
     assert_eq!(rt; status.number(), 0);
     assert_eq!(rt; wrote.as_slice(), BOX_REPORT.as_bytes());
     text.push(b'\n')?;
-    let (status, wrote) = solved(alloc, text.as_slice())?;
+    let (status, wrote) = ran(alloc, &["solve", "m.toml"], text.as_slice())?;
     assert_eq!(rt; status.number(), 9);
     assert_eq!(rt; wrote.len(), 0);
+    Ok(())
+}
+
+/// A model of as many parts as wanted, each seen by the ten points that its number's bits name.
+fn coded(alloc: Global, parts: u64) -> Result<String, AllocError> {
+    let mut text = String::from_str(
+        alloc,
+        "version = 1\ngood = 1\ntop = \"b\"\nsignals = [\"s\"]\n[[block]]\nname = \"b\"\n",
+    )?;
+    for bit in 0..10u64 {
+        let point = format!(in alloc;
+            "[[block.point]]\nname = \"x{bit}\"\ntest = [{{name = \"t\", cost = 1, signals = [\"s\"]}}]\n"
+        )?;
+        text.push_str(point.as_str())?;
+    }
+    for part in 0..parts {
+        let line = format!(in alloc;
+            "[[block.part]]\nname = \"k{part}\"\nfunctional = 1\nsignals = [\"s\"]\n"
+        )?;
+        text.push_str(line.as_str())?;
+    }
+    for part in 0..parts {
+        for bit in 0..10u64 {
+            if part >> bit & 1 == 1 {
+                let line = format!(in alloc;
+                    "[[block.link]]\nfrom = \"k{part}\"\nto = \"x{bit}\"\n"
+                )?;
+                text.push_str(line.as_str())?;
+            }
+        }
+    }
+    Ok(text)
+}
+
+/// Past 512 ambiguity groups nothing is solved, and the matrix and the figures still come.
+#[test]
+fn many_groups(rt: HostRuntime) -> Result<(), Fail> {
+    let alloc = rt.alloc();
+    let text = coded(alloc, 513)?;
+    let (status, wrote) = ran(alloc, &["solve", "m.toml"], text.as_str().as_bytes())?;
+    assert_eq!(rt; status.number(), 1);
+    assert_eq!(rt; wrote.as_slice(), b"refused M13 at classes\n".as_slice());
+    for action in ["matrix", "figures"] {
+        let (status, _wrote) = ran(alloc, &[action, "m.toml"], text.as_str().as_bytes())?;
+        assert_eq!(rt; status.number(), 0);
+    }
+    let text = coded(alloc, 512)?;
+    let (status, wrote) = ran(alloc, &["solve", "m.toml"], text.as_str().as_bytes())?;
+    assert_eq!(rt; status.number(), 1);
+    assert_eq!(rt; wrote.as_slice(), b"refused later at document\n".as_slice());
     Ok(())
 }

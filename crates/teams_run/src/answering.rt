@@ -1,0 +1,175 @@
+//! What is due for the bytes of a model, as a plan asks. All actions go the same way from the bytes to the
+//! matrix, and part there; the check of a certificate goes on with a second file.
+ghost use Rattle.std.specs.Prelude.{◌≡◌, ◌≢◌, ◌<◌, length, option_map, IfOk, IfErr, IfSome};
+ghost use Rattle.sig_flat.specs.Valid.{IsValid as IsValidFlat};
+ghost use Rattle.sig_matrix.specs.Valid.{IsValid};
+ghost use Rattle.sig_matrix.specs.Detection.{IsMatrixOf, system_of};
+ghost use Rattle.sig_types.specs.Refused.{TellsFirst};
+ghost use Rattle.teams_run.specs.Accepted.{IsMatrixOfText, mode_number, refusals};
+ghost use Rattle.teams_run.specs.Ready.{IsPrepared};
+ghost use Rattle.teams_run.specs.Solved.{IsLimit, IsUnsolved, TellsUnsolved};
+ghost use Rattle.teams_run.specs.Texts.{IsFiguresText, IsTextFor, IsAnswer, TellsUnfit, TellsWhy, mode_word};
+
+use crate::accepting::{flat_of_text, mode_of};
+use crate::due::Due;
+use crate::plan::{Action, Plan};
+use crate::preparing::{Prepared, prepare};
+use crate::solving::{Solution, solution_of};
+use crate::status::Status;
+use seq_inst::Verdict;
+use sig_classes::classes_of;
+use sig_figures::{figures_of, figures_text};
+use sig_flat::Flat;
+use sig_matrix::{Matrix, matrix_of, matrix_text};
+use sig_types::{ModelFault, Text};
+use std::alloc::{AllocError, Global};
+
+/// The flat model and the matrix that the bytes of a text lead to.
+#[derive(Drop)]
+pub struct Accepted {
+    flat: Flat,
+    pub matrix: Matrix,
+    mode: Option<u32>,
+}
+
+/// The mode's name, or `-`.
+pub fn mode_word(mode: Option<&Text>) -> &str
+    ensures { result.now ≡ mode_word (option_map (λ m. m.now) mode.entry) }
+{
+    match mode {
+        Some(name) => name.as_str(),
+        None => "-",
+    }
+}
+
+/// The matrix of the text, in the plan's mode.
+pub fn accept(alloc: Global, plan: &Plan, content: &[u8]) -> Result<Accepted, ModelFault>
+    ensures text { IfOk result (λ a. IsMatrixOfText content.now plan.now.mode a.flat a.matrix) }
+    ensures flat { IfOk result (λ a. IsValidFlat a.flat) }
+    ensures there { IfOk result (λ a. IfSome a.mode (λ m. m < length a.flat.modes)) }
+    ensures mode { IfOk result (λ a. a.mode ≡ mode_number a.flat.modes plan.now.mode) }
+    ensures matrix { IfOk result (λ a. IsMatrixOf a.flat a.mode a.matrix) }
+    ensures valid { IfOk result (λ a. IsValid a.matrix) }
+    ensures refused { IfErr result (TellsFirst (refusals content.now plan.now.mode)) }
+{
+    let flat = flat_of_text(alloc, content)?;
+    let mode = mode_of(&flat, plan.mode.as_ref())?;
+    let matrix = matrix_of(alloc, &flat, mode)?;
+    Ok(Accepted { flat, matrix, mode })
+}
+
+/// The text of the figures of testability.
+fn figured(
+    alloc: Global,
+    flat: &Flat,
+    matrix: &Matrix,
+    mode: Option<u32>,
+    name: &str,
+) -> Result<Vec<u8>, AllocError>
+    requires flat { IsValidFlat flat.now }
+    requires mode { IfSome mode (λ m. m < length flat.now.modes) }
+    requires matrix { IsMatrixOf flat.now mode matrix.now }
+    requires valid { IsValid matrix.now }
+    ensures { IfOk result (λ text. IsFiguresText flat.now matrix.now mode name.now text.items) }
+{
+    let classes = classes_of(alloc, matrix)?;
+    let figures = figures_of(alloc, flat, matrix, &classes, mode)?;
+    figures_text(alloc, flat, matrix, &figures, name)
+}
+
+/// A report of an optimal strategy is Done, and one of another is Bounded.
+fn solved(solution: Solution) -> Due
+    ensures text { result.text ≡ solution.text }
+    ensures optimal { solution.verdict ≡ Verdict.Optimal → result.status ≡ Status.Done }
+    ensures bounded { solution.verdict ≡ Verdict.Bounded → result.status ≡ Status.Bounded }
+{
+    let status = match solution.verdict {
+        Verdict::Optimal => Status::Done,
+        Verdict::Bounded => Status::Bounded,
+    };
+    Due {
+        status,
+        text: solution.text,
+    }
+}
+
+/// What `solve` writes of the matrix.
+fn solve_due(alloc: Global, plan: &Plan, flat: &Flat, matrix: &Matrix) -> Result<Due, ModelFault>
+    requires action { plan.now.action ≡ Action.Solve }
+    requires limit { IsLimit plan.now.groups }
+    requires valid { IsValid matrix.now }
+    ensures text { IfOk result (λ due. IsTextFor Action.Solve plan.now flat.now matrix.now due.status due.text.items) }
+    ensures unsolved { IfErr result (TellsUnsolved (system_of matrix.now)) }
+{
+    let name = mode_word(plan.mode.as_ref());
+    let prepared = prepare(alloc, matrix, name)?;
+    let solution = solution_of(alloc, matrix, &prepared, name, plan.groups)?;
+    Ok(solved(solution))
+}
+
+/// A text that goes with Done.
+fn done(text: Vec<u8>) -> Due
+    ensures status { result.status ≡ Status.Done }
+    ensures text { result.text ≡ text }
+{
+    Due {
+        status: Status::Done,
+        text,
+    }
+}
+
+/// What an action writes of the model alone.
+fn action_due(alloc: Global, plan: &Plan, accepted: &Accepted) -> Result<Due, ModelFault>
+    requires alone { plan.now.action ≢ Action.Check }
+    requires limit { IsLimit plan.now.groups }
+    requires flat { IsValidFlat accepted.now.flat }
+    requires there { IfSome accepted.now.mode (λ m. m < length accepted.now.flat.modes) }
+    requires mode { accepted.now.mode ≡ mode_number accepted.now.flat.modes plan.now.mode }
+    requires matrix { IsMatrixOf accepted.now.flat accepted.now.mode accepted.now.matrix }
+    requires valid { IsValid accepted.now.matrix }
+    ensures text { IfOk result (λ due. IsTextFor plan.now.action plan.now accepted.now.flat accepted.now.matrix due.status due.text.items) }
+    ensures unfit { IfErr result (TellsUnfit plan.now (system_of accepted.now.matrix)) }
+{
+    let matrix = &accepted.matrix;
+    let name = mode_word(plan.mode.as_ref());
+    match plan.action {
+        Action::Solve => solve_due(alloc, plan, &accepted.flat, matrix),
+        Action::Matrix => {
+            let text = matrix_text(alloc, matrix, name)?;
+            Ok(done(text))
+        }
+        Action::Figures => {
+            let text = figured(alloc, &accepted.flat, matrix, accepted.mode, name)?;
+            Ok(done(text))
+        }
+        Action::Check => unreachable!(),
+    }
+}
+
+/// What the plan asks of the model that the bytes describe, where it needs no certificate.
+pub fn answer_for(alloc: Global, plan: &Plan, content: &[u8]) -> Result<Due, ModelFault>
+    requires alone { plan.now.action ≢ Action.Check }
+    requires limit { IsLimit plan.now.groups }
+    ensures answer { IfOk result (λ due. IsAnswer plan.now content.now due.status due.text.items) }
+    ensures refused { IfErr result (TellsWhy plan.now content.now) }
+{
+    let accepted = accept(alloc, plan, content)?;
+    action_due(alloc, plan, &accepted)
+}
+
+/// The matrix of the text with its instance, against which a certificate is checked.
+pub fn prepared_for(
+    alloc: Global,
+    plan: &Plan,
+    content: &[u8],
+) -> Result<(Accepted, Prepared), ModelFault>
+    requires action { plan.now.action ≡ Action.Check }
+    ensures text { IfOk result (λ both. IsMatrixOfText content.now plan.now.mode both.0.flat both.0.matrix) }
+    ensures valid { IfOk result (λ both. IsValid both.0.matrix) }
+    ensures prepared { IfOk result (λ both. IsPrepared both.0.matrix (mode_word plan.now.mode) both.1) }
+    ensures refused { IfErr result (TellsWhy plan.now content.now) }
+{
+    let accepted = accept(alloc, plan, content)?;
+    let prepared = prepare(alloc, &accepted.matrix, mode_word(plan.mode.as_ref()))?;
+    Ok((accepted, prepared))
+}
