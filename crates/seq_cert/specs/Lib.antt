@@ -4,3 +4,7 @@ pub mod Order
 pub mod OutcomeReport
 pub mod LabelsOf
 pub mod ByClass
+pub mod LineForms
+pub mod Reading
+pub mod ReportForm
+pub mod BothWays
