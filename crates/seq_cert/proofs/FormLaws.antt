@@ -1,5 +1,5 @@
 -- The forms of single lines, both ways.
-use Rattle.std.proofs.Common.{◌≡◌, ℕ, ◌^◌, ◌<◌, ◌≤◌, List, [], ◌∷◌, length, decimal, refl, sym, ap, subst, ◌∙◌, arith, inl, inr, Option, Some, None}
+use Rattle.std.proofs.Common.{◌≡◌, ℕ, ◌^◌, ◌<◌, ◌≤◌, List, [], ◌∷◌, length, get_or, decimal, refl, sym, ap, subst, ◌∙◌, arith, lit<, inl, inr, Option, Some, None}
 use Rattle.std.specs.Prelude.{Bool, true, false, cond, not, ◌&&◌, nat_eq, nat_le, codes}
 use Rattle.std.specs.List.{list_all}
 use Rattle.std.specs.Option.{option_map}
@@ -9,7 +9,7 @@ use Rattle.sig_types.specs.NameText.{is_name_byte, is_name}
 use Rattle.sig_lines.specs.Hex.{number_of_words, hex}
 use Rattle.sig_lines.specs.Pieces.{Lacks, same_text, one, two, three, four}
 use Rattle.sig_lines.specs.Numbers.{number_in, hex_in, words_of}
-use Rattle.sig_lines.proofs.HexWords.{hex_in-some, hex_in-hex, number_back, plain_hex}
+use Rattle.sig_lines.proofs.HexWords.{hex_in-some, hex_in-hex, hex_read, number_back, plain_hex}
 use Rattle.sig_lines.proofs.PieceLaws.{IsPlain, ArePlain, IsSome, two_is, three_is, four_is, one_is}
 use Rattle.sig_lines.proofs.NumberWords.{same_text-true, same_text-refl, number_in-decimal, number_in-some, plain_decimal}
 use Rattle.seq_inst.specs.declared.outcome.Verdict.{Verdict}
@@ -94,8 +94,8 @@ name_byte b c lt e = grind (arith, nat_tests)
 
 plain_name : (name : List ℕ) → is_name name ≡ true → IsPlain name
 plain_name name e =
-    let h = (and_parts _ _ (and_parts _ _ e).1).1 in
-    (lacks_all is_name_byte 32 (λ c y. name_byte 32 c (omega arith) y) name h, lacks_all is_name_byte 10 (λ c y. name_byte 10 c (omega arith) y) name h)
+    let h : list_all is_name_byte name ≡ true = (and_parts _ _ (and_parts _ _ e).1).1 in
+    (lacks_all is_name_byte 32 (λ c y. name_byte 32 c (lit< tt) y) name h, lacks_all is_name_byte 10 (λ c y. name_byte 10 c (lit< tt) y) name h)
 
 pub plain_mode : (mode : List ℕ) → is_mode mode ≡ true → IsPlain mode
 plain_mode mode e = elim (cases_Bool (same_text mode (codes "-"))) [
@@ -177,6 +177,10 @@ hex_takes word ws e =
     let h = hex_in-some word ws e in
     let back : number_of_words ws ≡ h.n = ap number_of_words (sym h.words) ∙ number_back 8 h.n h.small in
     (h.is ∙ ap hex (sym back), record { small = rw back h.small; words = ap (words_of 8) back ∙ h.words })
+
+-- eight words are those of their number
+pub group_is : (ws : List ℕ) → length ws ≡ 8 → ((i : ℕ) → i < length ws → get_or ws i 0 < 2 ^ 64) → IsGroup (record { 0 = ws })
+group_is ws eight below = (hex_takes (hex (number_of_words ws)) ws (hex_read (hex (number_of_words ws)) ws eight below refl)).1
 
 pub group_form : IsForm group_in group_words IsGroupLine
 group_form = record {

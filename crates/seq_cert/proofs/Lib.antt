@@ -12,4 +12,5 @@ pub mod FormLaws
 pub mod HeadLaws
 pub mod BodyLaws
 pub mod Ends
+pub mod WrittenForm
 pub mod Loops

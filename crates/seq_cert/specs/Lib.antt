@@ -3,6 +3,7 @@ pub mod TreeLines
 pub mod Order
 pub mod OutcomeReport
 pub mod LabelsOf
+pub mod Printable
 pub mod ByClass
 pub mod LineForms
 pub mod Reading

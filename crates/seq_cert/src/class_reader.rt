@@ -10,7 +10,9 @@ ghost use Rattle.seq_cert.specs.Reading.{Gives, place, states_at, class_at, clas
 use crate::fault::{ReportFault, bad_line};
 use crate::report::{ClassLine, StateLine};
 use crate::words::{is_label, is_number};
-use sig_lines::{LineReader, ascii_text, four_words, is_text, line_of, number_between, three_words};
+use sig_lines::{
+    LineReader, ascii_text, four_words, is_text, line_of, number_between, three_words,
+};
 use sig_types::List;
 use std::alloc::Global;
 
@@ -31,10 +33,7 @@ fn state_of(line: &[u8]) -> Option<(u64, &[u8])>
     }
 }
 
-fn state_at(
-    alloc: Global,
-    at: LineReader<'_>,
-) -> Result<(StateLine, LineReader<'_>), ReportFault>
+fn state_at(alloc: Global, at: LineReader<'_>) -> Result<(StateLine, LineReader<'_>), ReportFault>
     ensures { Gives (λ x. (x.0, place x.1)) result (line_at state_in (place at.entry)) }
 {
     let Some((line, after)) = line_of(at) else {

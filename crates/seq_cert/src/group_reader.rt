@@ -9,7 +9,9 @@ ghost use Rattle.seq_cert.specs.Reading.{Gives, place, lines_at, missed_at};
 use crate::fault::{ReportFault, bad_line};
 use crate::report::{GroupLine, MissedLine};
 use seq_inst::{Group, Verdict};
-use sig_lines::{LineReader, four_words, is_text, line_of, number_between, three_words, words_in_hex};
+use sig_lines::{
+    LineReader, four_words, is_text, line_of, number_between, three_words, words_in_hex,
+};
 use sig_types::List;
 use std::alloc::Global;
 

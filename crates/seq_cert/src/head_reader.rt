@@ -11,9 +11,7 @@ ghost use Rattle.seq_cert.specs.Reading.{Gives, place, first_at, second_at, thir
 use crate::fault::{ReportFault, bad_line};
 use crate::words::is_mode;
 use seq_inst::Verdict;
-use sig_lines::{
-    LineReader, ascii_text, is_text, line_of, number_between, three_words, two_words,
-};
+use sig_lines::{LineReader, ascii_text, is_text, line_of, number_between, three_words, two_words};
 use sig_types::Text;
 use std::alloc::Global;
 

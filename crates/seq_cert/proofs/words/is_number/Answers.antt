@@ -1,4 +1,4 @@
-use Rattle.std.proofs.Common.{◌≡◌, ap, ◌∙◌, arith}
+use Rattle.std.proofs.Common.{ap, ◌∙◌, arith}
 use Rattle.std.specs.Prelude.{nat_eq}
 use Rattle.seq_cert.proofs.WordForms.{writes_number, writes_none}
 use Rattle.seq_cert.proofs.words.is_number.Goals as goal
