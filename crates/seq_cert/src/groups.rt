@@ -41,6 +41,13 @@ fn compare_lines(a: &GroupLine, b: &GroupLine) -> Ordering
     }
 }
 
+/// Whether the first line comes before the second: by size, and at one size by the group as a number.
+pub fn comes_before(a: &GroupLine, b: &GroupLine) -> bool
+    ensures { result ≡ is_before a.now b.now }
+{
+    compare_lines(a, b).is_lt()
+}
+
 /// How long an array of eight words is, for proofs alone.
 fn know_eight(bits: &[u64; 8])
     ensures { length bits.now ≡ 8 }

@@ -22,10 +22,13 @@ mod tree_reader;
 mod words;
 
 pub use both_ways::one_text;
+pub use by_class::states_by_class;
 pub use fault::{BadCode, BadLine, ReportFault};
+pub use groups::comes_before;
 pub use outcome_report::report_of;
 pub use report::{ClassLine, GroupLine, MissedLine, Report, StateLine, TreeLine};
 pub use report_reader::read_report;
+pub use tree::lowest_class;
 
 #[cfg(test)]
 mod tests;

@@ -7,7 +7,7 @@ ghost use Rattle.sig_lines.specs.Reading.{line_at};
 ghost use Rattle.seq_cert.specs.LineForms.{end_in};
 ghost use Rattle.seq_cert.specs.Reading.{Gives, place, body_at, whole_at, report_at};
 ghost use Rattle.seq_cert.specs.ReportForm.{IsReport};
-ghost use Rattle.seq_cert.specs.Text.{report_bytes};
+ghost use Rattle.seq_cert.specs.Text.{report_lines, report_bytes};
 
 use crate::class_reader::classes_of;
 use crate::fault::{ReportFault, bad_line};
@@ -130,6 +130,7 @@ pub fn read_report(alloc: Global, bytes: &[u8]) -> Result<Report, ReportFault>
     requires { length bytes.now ≤ 16777216 }
     // What is read is a report, and the bytes are its text.
     ensures found { IfOk result (λ r. IsReport r × (bytes.now ≡ report_bytes r)) }
+    ensures short { IfOk result (λ r. length (report_lines r) ≤ length bytes.now) }
     // The text of a report is read, unless memory runs out.
     ensures only { (r : Report) → IsReport r → bytes.now ≡ report_bytes r → Gives (λ x. x) result (Ok r) }
     // Which line is the first bad one.

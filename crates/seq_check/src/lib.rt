@@ -1,0 +1,6 @@
+//! The checker of reports.
+#![tactic(auto)]
+
+mod shown;
+
+pub use shown::certified_shows;
