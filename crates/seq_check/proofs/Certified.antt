@@ -16,7 +16,7 @@ use Rattle.seq_check.specs.TreesIn.{tree_in}
 use Rattle.seq_check.specs.Looks.{first_bad, AreGood}
 use Rattle.seq_check.specs.ModelLooks.{model_looks, class_looks, test_looks}
 use Rattle.seq_check.specs.GroupLooks.{claim_at, claims_of, group_looks}
-use Rattle.seq_check.specs.Lines.{cost_looks, low_looks, gap_looks, count_looks, head_looks, looks_at_tree, is_gap, looks, tests_at, tree_at, groups_at}
+use Rattle.seq_check.specs.Lines.{looks_from_classes, looks_from_tree, looks_from_groups, cost_looks, low_looks, gap_looks, count_looks, head_looks, looks_at_tree, is_gap, looks, tests_at, tree_at, groups_at}
 use Rattle.seq_check.specs.Shown.{CertifiedShows}
 use Rattle.seq_check.proofs.LookLaws.{good-first_bad, all_good-good, good-append}
 use Rattle.seq_check.proofs.DrawnTrees.{good_draws}
@@ -41,7 +41,7 @@ record Parts (p : Problem) (r : Report) : Type 0 where
   pub groups : AreGood (group_looks p (groups_at r) r.low (claims_of r.groups) None r.groups)
 
 parts : (p : Problem) (labels : Labels) (r : Report) → first_bad (looks p labels r) ≡ None → Parts p r
-unfolding looks head_looks
+unfolding looks head_looks looks_from_classes looks_from_tree looks_from_groups
 parts p labels r e =
     let a = good-append (head_looks p labels r) _ (good-first_bad (looks p labels r) e) in
     let h1 = good-append (model_looks p labels r) _ a.0 in

@@ -1,6 +1,6 @@
 -- Looks that are all good, and the first bad one.
-use Rattle.std.proofs.Common.{◌≡◌, List, [], ◌∷◌, ◌++◌, refl, ap, inl, inr, Option, Some, None}
-use Rattle.std.specs.Prelude.{true, is_none}
+use Rattle.std.proofs.Common.{◌≡◌, List, [], ◌∷◌, ◌++◌, refl, sym, ap, ◌∙◌, inl, inr, Option, Some, None}
+use Rattle.std.specs.Prelude.{true, false, is_none, is_some}
 use Rattle.std.proofs.lemmas.Bool.{cases_Bool}
 use Rattle.seq_cert.specs.declared.fault.BadLine.{BadLine}
 use Rattle.seq_check.specs.Looks.{Look, first_bad, all_good, AreGood}
@@ -37,3 +37,15 @@ first_later (l ∷ xs) ys e = elim (cases_Bool l.good) [
   | inl y ↦ (let e' = rw y at e in rw y (first_later xs ys e'))
   | inr n ↦ (let e' = rw n at e in absurd (let bad : ⊥ = cc in bad))
 ]
+
+-- the same, with what a part found
+pub stops : (xs ys : List Look) (o : Option BadLine) → is_some o ≡ true → o ≡ first_bad xs → o ≡ first_bad (xs ++ ys)
+stops xs ys None some is = absurd (let bad : ⊥ = cc in bad)
+stops xs ys (Some b) some is = sym (first_here xs ys b (sym is))
+
+pub is_none_left : (o : Option BadLine) → is_some o ≡ false → o ≡ None
+is_none_left None none = refl
+is_none_left (Some b) none = absurd (let bad : ⊥ = cc in bad)
+
+pub passes : (xs ys : List Look) (o : Option BadLine) → is_some o ≡ false → o ≡ first_bad xs → first_bad (xs ++ ys) ≡ first_bad ys
+passes xs ys o none is = first_later xs ys (sym is ∙ is_none_left o none)

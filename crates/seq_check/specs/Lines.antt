@@ -68,12 +68,18 @@ count_looks p r =
 unfoldable pub head_looks : Problem → Labels → Report → List Look
 head_looks p labels r = model_looks p labels r ++ (cost_looks p r ++ (low_looks p r ++ (gap_looks r ++ count_looks p r)))
 
+-- the looks from the group lines on
+unfoldable pub looks_from_groups : Problem → Report → List Look
+looks_from_groups p r = group_looks p (groups_at r) r.low (claims_of r.groups) None r.groups ++ missed_looks p (missed_at r) r.groups r.missed
+
+-- the looks from the tree lines on
+unfoldable pub looks_from_tree : Problem → Report → List Look
+looks_from_tree p r = looks_at_tree p r ++ looks_from_groups p r
+
+-- the looks from the class lines on
+unfoldable pub looks_from_classes : Problem → Labels → Report → List Look
+looks_from_classes p labels r = class_looks p labels.states 13 0 r.class_lines ++ (test_looks (tests_at r) labels.tests r.test_lines ++ looks_from_tree p r)
+
 -- all looks at a report
 unfoldable pub looks : Problem → Labels → Report → List Look
-looks p labels r =
-    head_looks p labels r
-    ++ (class_looks p labels.states 13 0 r.class_lines
-    ++ (test_looks (tests_at r) labels.tests r.test_lines
-    ++ (looks_at_tree p r
-    ++ (group_looks p (groups_at r) r.low (claims_of r.groups) None r.groups
-    ++ missed_looks p (missed_at r) r.groups r.missed))))
+looks p labels r = head_looks p labels r ++ looks_from_classes p labels r

@@ -1,9 +1,13 @@
 -- What a certified report shows.
-use Rattle.std.specs.Prelude.{◌≡◌, ℕ, ◌≤◌, None}
+use Rattle.std.specs.Prelude.{◌≡◌, ℕ, ◌≤◌, Option, Some, None, Result, Ok, Err}
 use Rattle.seq_theory.specs.Problem.{Problem, IsWeighed, AreTold, all_classes}
 use Rattle.seq_theory.specs.Tree.{Tree, tree_cost, Solves, IsLeast}
 use Rattle.sig_lines.specs.declared.labels.Labels.{Labels}
+use Rattle.seq_inst.specs.declared.outcome.Verdict.{Verdict}
 use Rattle.seq_inst.specs.declared.outcome.Verdict.TheVariants.{Optimal}
+use Rattle.seq_cert.specs.declared.fault.BadLine.{BadLine}
+use Rattle.seq_cert.specs.declared.fault.ReportFault.{ReportFault}
+use Rattle.seq_cert.specs.declared.fault.ReportFault.TheVariants.{Bad, OutOfMemory}
 use Rattle.seq_cert.specs.declared.report.Report.{Report}
 use Rattle.seq_cert.specs.TreeLines.{tree_lines}
 use Rattle.seq_check.specs.Looks.{first_bad}
@@ -28,3 +32,9 @@ pub record Shows (p : Problem) (r : Report) : Type 0 where
 
 abbrev pub CertifiedShows : Type 0
 CertifiedShows = (p : Problem) (labels : Labels) (r : Report) → IsWeighed p → AreTold p → IsCertified p labels r → Shows p r
+
+-- the verdict where no line is bad, else the first bad line; memory may be short
+abbrev pub Judges : Verdict → Option BadLine → Result Verdict ReportFault → Type 0
+Judges verdict first (Ok v) = (v ≡ verdict) × (first ≡ None)
+Judges verdict first (Err (Bad b)) = first ≡ Some b
+Judges verdict first (Err OutOfMemory) = Unit {0}
