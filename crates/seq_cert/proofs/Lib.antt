@@ -4,3 +4,13 @@ pub mod PickedStates
 pub mod Appended
 pub mod TreeText
 pub mod ReportText
+pub mod AllBytes
+pub mod WordForms
+pub mod TreeWords
+pub mod Spells
+pub mod FormLaws
+pub mod HeadLaws
+pub mod BodyLaws
+pub mod Ends
+pub mod WrittenForm
+pub mod Loops

@@ -1,12 +1,14 @@
 -- There is one list in order: it is the one that a stable sort leaves. Two lists in order whose items tie in the same ways
 -- are equal, item by item from the front, since an item that comes before all of the other list would tie with none of it.
-use Rattle.std.proofs.Common.{◌≡◌, ◌≢◌, ℕ, zero, suc, ◌<◌, ◌≤◌, List, [], ◌∷◌, length, map, get_or, refl, sym, ap, subst, ◌∙◌, arith, inl, inr, filter, true, false}
+use Rattle.std.proofs.Common.{◌≡◌, ℕ, suc, ◌<◌, ◌≤◌, List, [], ◌∷◌, length, map, get_or, refl, sym, ap, subst, ◌∙◌, arith, inl, inr, filter, true, false}
 use Rattle.std.specs.Prelude.{Bool, cond, ◌&&◌, ◌||◌, not, nat_eq, nat_lt}
 use Rattle.std.specs.Cmp.{IsStrictWeakOrder}
+use Rattle.std.specs.List.{All, AllByRecursion}
 use Rattle.std.specs.List.Sorted.{IsSortedBy, IsStableBy, ties}
-use Rattle.std.proofs.lemmas.Bool.{cases_Bool, false≢true, and_parts, and_from}
+use Rattle.std.proofs.lemmas.Bool.{cases_Bool, false≢true, and_parts}
 use Rattle.std.proofs.lemmas.Bool.Decides.{nat_tests}
 use Rattle.std.proofs.lemmas.List.{length-map}
+use Rattle.std.proofs.lemmas.List.Elements.{All-from_recursion, recursion_from_All}
 use Rattle.std.proofs.lemmas.List.Sorted.{sorted_far}
 use Rattle.seq_inst.specs.declared.outcome.Row.{Row}
 use Rattle.seq_cert.specs.declared.report.GroupLine.{GroupLine}
@@ -170,3 +172,19 @@ before_orders = record { one_way = λ x y. one_way x.size _ y.size _; chain = λ
 pub sorted_lines : (old new : List GroupLine) → IsSortedBy is_before new → IsStableBy is_before old new → new ≡ in_order old
 unfolding in_order
 sorted_lines old new sorted stable = sorted_is_ordered is_before before_orders old new sorted stable
+
+-- what holds of all group lines holds of them in order
+all-placed : (P : GroupLine → Type 0) (x : GroupLine) (xs : List GroupLine) → P x → AllByRecursion P xs → AllByRecursion P (placed is_before x xs)
+all-placed P x [] here all = (here, tt)
+all-placed P x (y ∷ more) here all = elim (cases_Bool (is_before y x)) [
+  | inl before ↦ rw before (all.0, all-placed P x more here all.1)
+  | inr after ↦ rw after (here, all)
+]
+
+all-ordered : (P : GroupLine → Type 0) (xs : List GroupLine) → AllByRecursion P xs → AllByRecursion P (ordered is_before xs)
+all-ordered P [] all = tt
+all-ordered P (x ∷ more) all = all-placed P x (ordered is_before more) all.0 (all-ordered P more all.1)
+
+pub all-in_order : (P : GroupLine → Type 0) (xs : List GroupLine) → All P xs → All P (in_order xs)
+unfolding in_order
+all-in_order P xs all = All-from_recursion P (ordered is_before xs) (all-ordered P xs (recursion_from_All P xs all))

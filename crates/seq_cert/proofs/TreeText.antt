@@ -1,6 +1,6 @@
 -- The tree lines of a strategy that asks, and the lowest class of a group.
-use Rattle.std.proofs.Common.{◌≡◌, ℕ, zero, suc, ◌+◌, ◌-◌, ◌<◌, ◌≤◌, List, [], ◌∷◌, ◌++◌, map, get_or, max, refl, sym, ap, subst, ◌∙◌, arith}
-use Rattle.std.specs.Prelude.{true, cond}
+use Rattle.std.proofs.Common.{◌≡◌, ℕ, zero, suc, ◌+◌, ◌-◌, ◌<◌, List, [], ◌∷◌, ◌++◌, map, get_or, max, refl, sym, ap, subst, ◌∙◌, arith}
+use Rattle.std.specs.Prelude.{true}
 use Rattle.std.proofs.lemmas.List.{map-append}
 use Rattle.seq_theory.specs.Problem.{Problem, pass_part, fail_part}
 use Rattle.seq_theory.specs.Tree.{Tree, ask, AsksOnly}

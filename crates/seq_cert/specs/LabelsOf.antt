@@ -1,5 +1,5 @@
 -- Labels of an instance.
-use Rattle.std.specs.Prelude.{◌≡◌, ℕ, ◌<◌, List, filter, length, sum_by, slice_index_or, []}
+use Rattle.std.specs.Prelude.{◌≡◌, ℕ, ◌<◌, filter, length, sum_by, slice_index_or, []}
 use Rattle.std.specs.List.{All}
 use Rattle.seq_theory.specs.Problem.{Problem}
 use Rattle.sig_lines.specs.declared.labels.StateLabel.{StateLabel}

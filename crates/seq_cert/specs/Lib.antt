@@ -3,4 +3,9 @@ pub mod TreeLines
 pub mod Order
 pub mod OutcomeReport
 pub mod LabelsOf
+pub mod Printable
 pub mod ByClass
+pub mod LineForms
+pub mod Reading
+pub mod ReportForm
+pub mod BothWays

@@ -1,6 +1,6 @@
 -- The order of group lines: by size upwards, and at one size by the group as a number upwards. A list is put in order by
 -- placing one item after another, the ties in the order in which they came.
-use Rattle.std.specs.Prelude.{ℕ, Bool, cond, ◌&&◌, ◌||◌, nat_eq, nat_lt, List, [], ◌∷◌}
+use Rattle.std.specs.Prelude.{Bool, cond, ◌&&◌, ◌||◌, nat_eq, nat_lt, List, [], ◌∷◌}
 use Rattle.sig_lines.specs.Hex.{number_of_words}
 use Rattle.seq_cert.specs.declared.report.GroupLine.{GroupLine}
 

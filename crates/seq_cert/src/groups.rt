@@ -1,6 +1,6 @@
 //! The entered groups of a report, by size and at one size by the group as a number. A stable sort puts
 //! them in order, so nothing is asked of the rows.
-ghost use Rattle.std.specs.Prelude.{◌≡◌, ◌∷◌, [], false, length, map, OnOk, IfOk};
+ghost use Rattle.std.specs.Prelude.{◌≡◌, ◌^◌, ◌<◌, ◌∷◌, [], ℕ, false, length, map, slice_index, OnOk, IfOk, IfSome, All};
 ghost use Rattle.std.specs.Option.{option_map};
 ghost use Rattle.std.specs.Ordering.{is_lt, nat_cmp};
 ghost use Rattle.sig_lines.specs.Hex.{number_of_words};
@@ -8,6 +8,7 @@ ghost use Rattle.sig_lines.specs.Written.{with_lines};
 ghost use Rattle.seq_cert.specs.Text.{group_words, missed_words, missed_lines};
 ghost use Rattle.seq_cert.specs.Order.{is_before, in_order};
 ghost use Rattle.seq_cert.specs.OutcomeReport.{row_line, missed_line};
+ghost use Rattle.seq_cert.specs.ReportForm.{IsGroup, IsGroupLine, IsMissed};
 
 use crate::report::GroupLine;
 use seq_inst::{Group, Row, count_of};
@@ -40,10 +41,38 @@ fn compare_lines(a: &GroupLine, b: &GroupLine) -> Ordering
     }
 }
 
+/// Whether the first line comes before the second: by size, and at one size by the group as a number.
+pub fn comes_before(a: &GroupLine, b: &GroupLine) -> bool
+    ensures { result ≡ is_before a.now b.now }
+{
+    compare_lines(a, b).is_lt()
+}
+
+/// How long an array of eight words is, for proofs alone.
+fn know_eight(bits: &[u64; 8])
+    ensures { length bits.now ≡ 8 }
+{}
+
+/// How great words are, for proofs alone.
+fn know_words(bits: &[u64])
+    ensures { (i : ℕ) → slice_index bits.now i < 2 ^ 64 }
+{}
+
+/// That a group's words are those of its number, for proofs alone.
+fn know_group(group: &Group)
+    ensures { IsGroup group.now }
+{
+    know_eight(&group.0);
+    know_words(&group.0);
+}
+
 /// The line of a row.
 fn line_of(row: &Row) -> GroupLine
-    ensures { result ≡ row_line row.now }
+    ensures is { result ≡ row_line row.now }
+    ensures fits { IsGroupLine result }
 {
+    know_group(&row.group);
+    let _low = row.low;
     GroupLine {
         size: count_of(&row.group),
         group: row.group,
@@ -53,7 +82,8 @@ fn line_of(row: &Row) -> GroupLine
 
 /// The lines of the rows, in order.
 fn lines_in_order(alloc: Global, rows: &[Row]) -> Result<Vec<GroupLine>, AllocError>
-    ensures { IfOk result (λ lines. lines.items ≡ in_order (map row_line rows.now)) }
+    ensures order { IfOk result (λ lines. lines.items ≡ in_order (map row_line rows.now)) }
+    ensures fits { OnOk result (All IsGroupLine (in_order (map row_line rows.now))) }
 {
     let mut lines = Vec::with_capacity(alloc, rows.len())?;
     for row in rows {
@@ -89,7 +119,8 @@ fn write_lines(out: &mut Lines, lines: &[GroupLine]) -> Result<(), AllocError>
 /// Writes the lines of the rows, in order.
 pub fn write_groups(alloc: Global, out: &mut Lines, rows: &[Row]) -> Result<(), AllocError>
     requires { out.old.begun ≡ false }
-    ensures { OnOk result (out.new ≡ with_lines out.old (map group_words (in_order (map row_line rows.now)))) }
+    ensures written { OnOk result (out.new ≡ with_lines out.old (map group_words (in_order (map row_line rows.now)))) }
+    ensures fits { OnOk result (All IsGroupLine (in_order (map row_line rows.now))) }
 {
     let lines = lines_in_order(alloc, rows)?;
     write_lines(out, lines.as_slice())
@@ -99,11 +130,13 @@ pub fn write_groups(alloc: Global, out: &mut Lines, rows: &[Row]) -> Result<(), 
 #[tactic(auto, using(sig_lines::proofs::WrittenLines::writing))]
 pub fn write_missed(out: &mut Lines, missed: Option<Group>) -> Result<(), AllocError>
     requires { out.old.begun ≡ false }
-    ensures { OnOk result (out.new ≡ with_lines out.old (missed_lines (option_map missed_line missed))) }
+    ensures written { OnOk result (out.new ≡ with_lines out.old (missed_lines (option_map missed_line missed))) }
+    ensures fits { IfSome (option_map missed_line missed) IsMissed }
 {
     match missed {
         None => Ok(()),
         Some(group) => {
+            know_group(&group);
             out.word("missed")?;
             out.number(u64::from(count_of(&group)))?;
             out.hex(&group.0)?;

@@ -6,7 +6,10 @@ ghost use Rattle.seq_inst.specs.Instances.{problem_of};
 ghost use Rattle.seq_inst.specs.Trees.{tree_of};
 ghost use Rattle.seq_cert.specs.LabelsOf.{AreLabelsOf};
 ghost use Rattle.seq_cert.specs.Text.{report_lines, report_bytes};
+ghost use Rattle.seq_cert.specs.LineForms.{most_64};
+ghost use Rattle.seq_cert.specs.ReportForm.{IsReport};
 ghost use Rattle.seq_cert.specs.OutcomeReport.{report_from};
+ghost use Rattle.seq_cert.specs.Printable.{IsPrintable, AreNumbers};
 
 use crate::classes::write_classes;
 use crate::groups::{write_groups, write_missed};
@@ -26,6 +29,15 @@ fn write_end(out: &mut Lines) -> Result<(), AllocError>
     out.end_line()
 }
 
+/// How great the costs are, for proofs alone.
+fn know_costs(outcome: &Outcome)
+    ensures cost { outcome.now.cost ≤ most_64 }
+    ensures low { outcome.now.low ≤ most_64 }
+{
+    let _cost = outcome.cost;
+    let _low = outcome.low;
+}
+
 /// Writes all lines.
 #[tactic(auto, using(sig_lines::proofs::WrittenLines::writing))]
 fn write_report(
@@ -39,8 +51,10 @@ fn write_report(
     requires labels { AreLabelsOf (problem_of inst.now) labels.now }
     requires there { AsksOnly (problem_of inst.now).tests (tree_of outcome.now.strategy) }
     requires proper { outcome.now.low ≤ outcome.now.cost }
-    ensures { OnOk result (out.new ≡ with_lines out.old (report_lines (report_from (problem_of inst.now) outcome.now labels.now))) }
+    ensures written { OnOk result (out.new ≡ with_lines out.old (report_lines (report_from (problem_of inst.now) outcome.now labels.now))) }
+    ensures numbers { OnOk result (AreNumbers outcome.now) }
 {
+    know_costs(outcome);
     write_head(out, inst, outcome, labels)?;
     write_classes(alloc, out, inst, labels.states.as_slice())?;
     write_tests(out, labels.tests.as_slice())?;
@@ -61,7 +75,9 @@ pub fn report_of(
     requires labels { AreLabelsOf (problem_of inst.now) labels.now }
     requires there { AsksOnly (problem_of inst.now).tests (tree_of outcome.now.strategy) }
     requires proper { outcome.now.low ≤ outcome.now.cost }
-    ensures { IfOk result (λ v. v.items ≡ report_bytes (report_from (problem_of inst.now) outcome.now labels.now)) }
+    ensures text { IfOk result (λ v. v.items ≡ report_bytes (report_from (problem_of inst.now) outcome.now labels.now)) }
+    // What is written has the form, so `read_report` gives this report back.
+    ensures form { OnOk result (IsPrintable outcome.now labels.now → IsReport (report_from (problem_of inst.now) outcome.now labels.now)) }
 {
     let mut out = Lines::new(alloc);
     write_report(alloc, &mut out, inst, outcome, labels)?;

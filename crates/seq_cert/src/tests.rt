@@ -1,9 +1,9 @@
-//! The printed report of two faults, each seen by a test of its own, byte by byte.
+//! The printed report of two faults, each seen by a test of its own, byte by byte; and reports read.
 ghost use Rattle.std.specs.Prelude.{◌≡◌, ◌≤◌, [], ◌∷◌, codes, IfOk};
 ghost use Rattle.seq_theory.specs.Tree.{AsksOnly};
 ghost use Rattle.seq_inst.specs.Trees.{tree_of};
 
-use crate::report_of;
+use crate::{BadCode, BadLine, Report, ReportFault, read_report, report_of};
 use seq_inst::{Group, Instance, Outcome, Row, Strategy, Verdict, ask_first};
 use sig_lines::{Labels, StateLabel, TestLabel};
 use sig_types::{List, Text};
@@ -141,5 +141,100 @@ fn a_report_with_groups_in_order(rt: HostRuntime) -> Result<(), Fail> {
         bytes.as_slice(),
         b"teams report 1\nmode -\nstates 3\nclasses 3\ntests 2\nweight 10\nresult bounded\ncost 27\nlow 20\ngap 7\nlimit 4000\ngroups 3\nclass 0 6 1\nstate 6 good\nclass 1 3 1\nstate 3 A.f\nclass 2 1 1\nstate 1 B.f\ntest 0 2 X/tA\ntest 1 1 Y/tB\nask 0\nask 1\nleaf 0\nleaf 2\nleaf 1\ngroup 2 3 18\ngroup 2 6 4\ngroup 3 7 20\nmissed 2 5\nend\n".as_slice()
     );
+    Ok(())
+}
+
+const WHOLE: &[u8] =
+    b"teams report 1\nmode -\nstates 3\nclasses 3\ntests 2\nweight 10\nresult optimal\ncost 27\nlow 27\ngap 0\nlimit 4000\ngroups 1\nclass 0 6 1\nstate 6 good\nclass 1 3 1\nstate 3 A.f\nclass 2 1 1\nstate 1 B.f\ntest 0 2 X/tA\ntest 1 1 Y/tB\nask 0\nask 1\nleaf 0\nleaf 2\nleaf 1\ngroup 3 7 27\nend\n";
+
+#[test]
+fn a_report_is_read(rt: HostRuntime) -> Result<(), Fail> {
+    let alloc = rt.alloc();
+    let rows = vec![in alloc;
+        Row {
+            group: group(7),
+            low: 27,
+            up: 27
+        },
+    ]?;
+    let bytes = text(alloc, Verdict::Optimal, 27, rows, None)?;
+    assert_eq!(rt; bytes.as_slice(), WHOLE);
+    match read_report(alloc, WHOLE) {
+        Ok(report) => {
+            assert_eq!(rt; report.mode.as_str(), "-");
+            assert_eq!(rt; report.weight, 10);
+            assert!(rt; report.verdict == Verdict::Optimal);
+            assert_eq!(rt; report.cost, 27);
+            assert_eq!(rt; report.class_lines.len(), 3);
+            assert_eq!(rt; report.test_lines.len(), 2);
+            assert_eq!(rt; report.tree.len(), 5);
+            assert_eq!(rt; report.groups.len(), 1);
+        }
+        Err(_) => assert!(rt; false),
+    }
+    Ok(())
+}
+
+/// The first bad line of a text; 0 where it has the form.
+fn bad_line(read: Result<Report, ReportFault>) -> u32 {
+    match read {
+        Ok(_) => 0,
+        Err(ReportFault::Bad(BadLine { line, code })) => {
+            if code == BadCode::C01 { line } else { 0 }
+        }
+        Err(ReportFault::OutOfMemory) => 0,
+    }
+}
+
+#[test]
+fn the_first_bad_line_is_named(rt: HostRuntime) -> Result<(), Fail> {
+    let alloc = rt.alloc();
+    for (text, line) in [
+        (&WHOLE[..262], 27),
+        (&WHOLE[..265], 27),
+        (&WHOLE[..20], 2),
+        (&WHOLE[1..], 1),
+        (b"".as_slice(), 1),
+        (b"teams report 1\nmode -\nstates 03\n".as_slice(), 3),
+        (b"teams report 1\nmode -\nstates 4098\n".as_slice(), 3),
+    ] {
+        assert_eq!(rt; bad_line(read_report(alloc, text)), line);
+    }
+    Ok(())
+}
+
+/// A report of one class with so many states, of which the head is given, and of so many asks.
+fn long_report(alloc: Global, head: &[u8], states: u32, asks: u32) -> Result<Vec<u8>, AllocError> {
+    let mut text = Vec::from_slice(alloc, head)?;
+    for _ in 0..states {
+        text.extend_from_slice(b"state 1 a\n")?;
+    }
+    for _ in 0..asks {
+        text.extend_from_slice(b"ask 0\n")?;
+    }
+    text.extend_from_slice(b"end\n")?;
+    Ok(text)
+}
+
+#[test]
+fn lines_past_the_limits_are_bad(rt: HostRuntime) -> Result<(), Fail> {
+    let alloc = rt.alloc();
+    let many =
+        b"teams report 1\nmode -\nstates 1\nclasses 1\ntests 0\nweight 5\nresult optimal\ncost 0\nlow 0\ngap 0\nlimit 1\ngroups 0\nclass 0 5 18446744073709551615\n".as_slice();
+    let one =
+        b"teams report 1\nmode -\nstates 1\nclasses 1\ntests 0\nweight 5\nresult optimal\ncost 0\nlow 0\ngap 0\nlimit 1\ngroups 0\nclass 0 5 1\n".as_slice();
+    for (head, states, asks, line) in [
+        (many, 4098, 0, 4111),
+        (many, 3, 0, 17),
+        (one, 1, 511, 0),
+        (one, 1, 512, 526),
+    ] {
+        let text = long_report(alloc, head, states, asks)?;
+        if text.len() <= 16777216 {
+            assert_eq!(rt; bad_line(read_report(alloc, text.as_slice())), line);
+        } else {
+            assert!(rt; false);
+        }
+    }
     Ok(())
 }

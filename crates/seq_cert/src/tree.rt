@@ -15,7 +15,7 @@ use sig_lines::Lines;
 use std::alloc::AllocError;
 
 /// The lowest class of the group, or 0 where it has none.
-fn lowest_class(group: &Group) -> u32
+pub fn lowest_class(group: &Group) -> u32
     ensures { result ≡ slice_index (members group.now) 0 }
 {
     for class in 0..512 {

@@ -1,4 +1,4 @@
-use Rattle.std.proofs.Common.{◌≡◌, ◌<◌, ◌∷◌, [], ℕ, ap, ◌∙◌, get_or, length}
+use Rattle.std.proofs.Common.{◌<◌, ◌∷◌, [], ℕ, ap, ◌∙◌, get_or, length}
 use Rattle.std.proofs.lemmas.List.{get_or_read}
 use Rattle.std.proofs.lemmas.List.Elements.{All-get_or}
 use Rattle.sig_lines.specs.Written.{with_lines}

@@ -1,4 +1,4 @@
-use Rattle.std.proofs.Common.{◌≡◌, ◌≢◌, ◌-◌, ◌<◌, ◌∙◌, ℕ, suc, subst, length, get_or, drop, arith}
+use Rattle.std.proofs.Common.{◌≡◌, ◌-◌, ◌<◌, ◌∙◌, ℕ, suc, subst, length, drop, arith}
 use Rattle.seq_cert.proofs.NumberOrder.{AreSmall, compared_at}
 use Rattle.seq_cert.proofs.groups.compare_numbers.Goals as goal
 

@@ -1,4 +1,4 @@
-use Rattle.std.proofs.Common.{◌≡◌, ◌<◌, ◌++◌, ◌∷◌, sym, ap, subst, ◌∙◌, arith, map}
+use Rattle.std.proofs.Common.{◌≡◌, ◌<◌, sym, ap, subst, ◌∙◌, arith}
 use Rattle.seq_theory.specs.Tree.{Tree, ask, AsksOnly}
 use Rattle.sig_lines.specs.Written.{Written, with_lines}
 use Rattle.sig_lines.proofs.WrittenLines.{begun_after, lines_after}
@@ -6,9 +6,6 @@ use Rattle.seq_inst.specs.Instances.{problem_of}
 use Rattle.seq_inst.specs.Members.{members}
 use Rattle.seq_inst.specs.Shapes.{height}
 use Rattle.seq_inst.specs.Trees.{tree_of}
-use Rattle.seq_inst.specs.declared.strategy.Strategy.{Strategy}
-use Rattle.seq_cert.specs.Text.{tree_words}
-use Rattle.seq_cert.specs.TreeLines.{tree_lines}
 use Rattle.seq_cert.proofs.TreeText.{asks_only, ask_lines}
 use Rattle.seq_cert.proofs.tree.+write_tree.Goals as goal
 

@@ -1,4 +1,4 @@
-use Rattle.std.proofs.Common.{◌≡◌, sym, ◌∙◌, true, false}
+use Rattle.std.proofs.Common.{sym, ◌∙◌}
 use Rattle.seq_inst.proofs.MembersLaws.{members_below-zero, members_below-out}
 use Rattle.seq_cert.proofs.TreeText.{lowest_is}
 use Rattle.seq_cert.proofs.tree.lowest_class.Goals as goal

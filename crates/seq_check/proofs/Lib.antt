@@ -1,0 +1,14 @@
+pub mod LookLaws
+pub mod DrawnTrees
+pub mod ClaimLooks
+pub mod Certified
+pub mod LeastSums
+pub mod SideLooks
+pub mod TreeWalk
+pub mod SizedGroups
+pub mod Alike
+pub mod PickedStates
+pub mod ClassLines
+pub mod GroupLines
+pub mod Settled
+pub mod LineCounts

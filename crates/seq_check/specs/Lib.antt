@@ -1,0 +1,10 @@
+pub mod Looks
+pub mod TreesIn
+pub mod ModelLooks
+pub mod Picked
+pub mod TreeLooks
+pub mod Walked
+pub mod GroupLooks
+pub mod Listed
+pub mod Lines
+pub mod Shown

@@ -1,0 +1,35 @@
+//! What the group lines claim, looked up by group. A group that is listed twice counts with its first
+//! line.
+ghost use Rattle.std.specs.Prelude.{IfOk, OnOk, List, ◌∷◌, [], ◌++◌};
+ghost use Rattle.seq_cert.specs.declared.report.GroupLine.{GroupLine as Line};
+ghost use Rattle.seq_check.specs.Listed.{AreLows};
+
+use crate::groups_alike::know_group;
+use indexmap::IndexMap;
+use seq_cert::GroupLine;
+use std::alloc::{AllocError, Global};
+
+/// The low of each listed group, by the group's words.
+pub type Lows = IndexMap<[u64; 8], u64>;
+
+/// Notes the low of one more line.
+fn note(lows: &mut Lows, line: &GroupLine) -> Result<(), AllocError>
+    ensures { OnOk result ((lines : List Line) → AreLows lows.old lines → AreLows lows.new (lines ++ line.now ∷ [])) }
+{
+    know_group(&line.group);
+    if !lows.contains_key(&line.group.0) {
+        lows.insert(line.group.0, line.low)?;
+    }
+    Ok(())
+}
+
+/// The lows of the lines.
+pub fn lows_of(alloc: Global, lines: &[GroupLine]) -> Result<Lows, AllocError>
+    ensures { IfOk result (λ m. AreLows m lines.now) }
+{
+    let mut lows = IndexMap::new(alloc);
+    for line in lines {
+        note(&mut lows, line)?;
+    }
+    Ok(lows)
+}
