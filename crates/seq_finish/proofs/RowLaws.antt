@@ -1,17 +1,14 @@
 -- What settled rows say of a group: the bounds in its row are its low and its value, and a group without a row was not
 -- entered.
-use Rattle.std.proofs.Common.{◌≡◌, ℕ, List, [], ◌∷◌, refl, sym, ap, ◌∙◌, arith, inl, inr, subst, Option, Some, None}
+use Rattle.std.proofs.Common.{◌≡◌, ℕ, List, [], ◌∷◌, refl, sym, ap, ◌∙◌, Option, Some, None}
 use Rattle.std.specs.Prelude.{Bool, true, false, cond, All}
 use Rattle.std.specs.Option.{option_map}
-use Rattle.std.proofs.lemmas.Bool.{cases_Bool, true≢false}
 use Rattle.std.proofs.lemmas.List.Elements.{All-head, All-tail}
 use Rattle.seq_theory.specs.Problem.{Problem, is_end}
 use Rattle.seq_theory.specs.Graph.{same_group, is_entered, low, val}
 use Rattle.seq_theory.specs.Rows.{Row as PlainRow, groups_of, row_of}
 use Rattle.seq_theory.proofs.RowLaws.{same_group-true}
-use Rattle.seq_theory.proofs.ValLaws.{val-end, val-other}
-use Rattle.seq_theory.proofs.LowLaws.{low-end}
-use Rattle.seq_inst.specs.declared.group.Group.{Group}
+use Rattle.seq_theory.proofs.ValLaws.{val-other}
 use Rattle.seq_inst.specs.declared.outcome.Row.{Row}
 use Rattle.seq_inst.specs.Members.{members}
 use Rattle.seq_core.specs.RowsOf.{row_of as row_from, rows_of as rows_from}
