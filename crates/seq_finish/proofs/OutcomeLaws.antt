@@ -4,17 +4,16 @@ use Rattle.std.proofs.Common.{◌≡◌, ℕ, zero, suc, ◌<◌, ◌≤◌, Lis
 use Rattle.std.specs.Prelude.{true, false, All, IsSome, is_some, slice_index_or, vec_len}
 use Rattle.std.proofs.lemmas.Bool.{cases_Bool, cases_lt}
 use Rattle.std.proofs.lemmas.List.Elements.{All-map}
-use Rattle.seq_theory.specs.Problem.{Problem, IsWithin, AreTold, all_classes, is_end}
+use Rattle.seq_theory.specs.Problem.{Problem, IsWithin, all_classes, is_end}
 use Rattle.seq_theory.specs.Tree.{Tree, tree_cost, Solves}
 use Rattle.seq_theory.specs.Graph.{same_group, is_entered, low, val, strat, IsReal}
-use Rattle.seq_theory.specs.Rows.{Row as PlainRow, groups_of, IsRow, AreDistinct, IsSound}
+use Rattle.seq_theory.specs.Rows.{IsRow, AreDistinct, IsSound}
 use Rattle.seq_theory.proofs.LeastLaws.{count_up-IsIn}
 use Rattle.seq_theory.proofs.PublicLaws.{entered_holds}
 use Rattle.seq_theory.proofs.RowLaws.{same_group-refl, or-left, or-right, wanted-within}
 use Rattle.seq_theory.proofs.ValLaws.{val-end, val-entered}
 use Rattle.seq_inst.specs.declared.group.Group.{Group}
 use Rattle.seq_inst.specs.declared.outcome.Row.{Row}
-use Rattle.seq_inst.specs.declared.outcome.Verdict.{Verdict}
 use Rattle.seq_inst.specs.declared.outcome.Verdict.TheVariants.{Optimal, Bounded}
 use Rattle.seq_inst.specs.declared.outcome.Outcome.{Outcome}
 use Rattle.seq_inst.specs.Members.{members}
@@ -27,9 +26,9 @@ use Rattle.seq_inst.proofs.ShapeLaws.{leaves-le, height-lt-leaves}
 use Rattle.seq_finish.proofs.StratLaws.{the-value, strat-splitting}
 use Rattle.seq_core.specs.RowsOf.{row_of as row_from, rows_of as rows_from}
 use Rattle.seq_core.specs.Settled.{groups_in, value_or, AreGroups, settled_row, settled_rows}
-use Rattle.seq_finish.specs.Entered.{AreEnough, IsFull, MayStop}
+use Rattle.seq_finish.specs.Entered.{IsFull, MayStop}
 use Rattle.seq_finish.specs.Outcomes.{AreEntered, IsSettled, IsRightOutcome}
-use Rattle.seq_finish.specs.Laws.{OutcomeStands, OutcomesHold}
+use Rattle.seq_finish.specs.Laws.{OutcomesHold}
 
 pub within-all : (p : Problem) → IsWithin p (all_classes p)
 within-all p c i = let w = count_up-IsIn c 0 p.classes i in omega arith

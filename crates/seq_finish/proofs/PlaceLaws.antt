@@ -1,16 +1,16 @@
 -- The map from the rows' groups to their places finds the row of a group. Since no group stands twice, each row's group is
 -- new to the map when it is added.
-use Rattle.std.proofs.Common.{◌≡◌, ℕ, zero, suc, ◌+◌, ◌-◌, ◌<◌, ◌≤◌, List, [], ◌∷◌, ◌++◌, take, get_or, length, refl, sym, ap, ◌∙◌, arith, inl, inr, subst, Option, Some, None}
+use Rattle.std.proofs.Common.{◌≡◌, ℕ, zero, suc, ◌+◌, ◌<◌, ◌≤◌, List, [], ◌∷◌, ◌++◌, take, get_or, length, refl, sym, ap, ◌∙◌, arith, inl, inr, subst, Some, None}
 use Rattle.std.specs.Prelude.{Bool, true, false, cond}
 use Rattle.std.proofs.lemmas.Bool.{cases_Bool, true≢false, or_parts}
 use Rattle.std.proofs.lemmas.List.{take_more}
 use Rattle.seq_theory.specs.Graph.{same_group, is_entered}
-use Rattle.seq_theory.specs.Rows.{Row as PlainRow, AreDistinct, row_of}
+use Rattle.seq_theory.specs.Rows.{AreDistinct, row_of}
 use Rattle.seq_theory.proofs.RowLaws.{same_group-true, same_group-refl}
 use Rattle.seq_inst.specs.declared.outcome.Row.{Row}
 use Rattle.seq_inst.specs.Members.{members}
 use Rattle.seq_core.specs.RowsOf.{row_of as row_from, rows_of as rows_from}
-use Rattle.seq_core.specs.Mapping.{Placed, place_of}
+use Rattle.seq_core.specs.Mapping.{place_of}
 use Rattle.seq_core.specs.Tables.{numbered}
 use Rattle.seq_core.specs.Settled.{groups_in}
 

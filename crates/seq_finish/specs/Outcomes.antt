@@ -1,11 +1,10 @@
 -- When an outcome is right. It is a function of the entered groups, of the limit and of the group that was missed; the
 -- order of the rows means nothing.
-use Rattle.std.specs.Prelude.{◌≡◌, ◌≤◌, ◌↔◌, ℕ, false, true, All, List, length, Option, Some, None}
+use Rattle.std.specs.Prelude.{◌≡◌, ◌≤◌, ◌↔◌, ℕ, false, true, All, List, length, Some, None}
 use Rattle.seq_theory.specs.Problem.{Problem, all_classes, is_end}
 use Rattle.seq_theory.specs.Graph.{is_entered, low, val, strat, IsReal}
 use Rattle.seq_theory.specs.Rows.{AreDistinct}
 use Rattle.seq_inst.specs.declared.outcome.Row.{Row}
-use Rattle.seq_inst.specs.declared.outcome.Verdict.{Verdict}
 use Rattle.seq_inst.specs.declared.outcome.Verdict.TheVariants.{Optimal, Bounded}
 use Rattle.seq_inst.specs.declared.outcome.Outcome.{Outcome}
 use Rattle.seq_inst.specs.Members.{members}

@@ -13,8 +13,8 @@ ghost use Rattle.seq_finish.specs.Entered.{MayStop};
 ghost use Rattle.seq_finish.specs.Outcomes.{AreEntered, IsRightOutcome};
 
 use crate::places::{bounds_of, index_of};
-use crate::settled::settle;
 use crate::strategy::strategy_of;
+use seq_core::settle;
 use seq_huff::Scratch;
 use seq_inst::{Group, Instance, Outcome, Row, Verdict, root};
 use std::alloc::{AllocError, Global};

@@ -1,9 +1,7 @@
-use Rattle.std.proofs.Common.{◌≡◌, ◌∙◌, sym, ap, subst, refl, arith, length, ◌<◌, ◌≤◌}
-use Rattle.std.specs.Prelude.{false, All, IsSome}
-use Rattle.seq_theory.specs.Problem.{IsWithin, is_end}
+use Rattle.std.proofs.Common.{◌≡◌, ◌∙◌, sym, ap, subst, refl, arith, length}
+use Rattle.std.specs.Prelude.{All, IsSome}
 use Rattle.seq_theory.specs.Graph.{low, val, strat}
 use Rattle.seq_theory.specs.Rows.{AreDistinct}
-use Rattle.seq_inst.specs.declared.outcome.Row.{Row}
 use Rattle.seq_inst.specs.Members.{members}
 use Rattle.seq_inst.specs.Instances.{problem_of}
 use Rattle.seq_inst.specs.Trees.{tree_of}

@@ -1,5 +1,4 @@
-use Rattle.std.proofs.Common.{◌≡◌, ◌<◌, ◌+◌, ◌-◌, ◌∙◌, sym, ap, arith, refl, Some}
-use Rattle.seq_inst.specs.declared.outcome.Row.{Row}
+use Rattle.std.proofs.Common.{◌≡◌, ◌+◌, ◌∙◌, sym, ap, arith}
 use Rattle.seq_inst.specs.Members.{members}
 use Rattle.seq_finish.specs.Entered.{no_row}
 use Rattle.seq_core.specs.Mapping.{place_of}

@@ -1,4 +1,4 @@
-use Rattle.std.proofs.Common.{◌≡◌, ◌∙◌, sym, ap, arith, subst, length, Some}
+use Rattle.std.proofs.Common.{◌∙◌, sym, ap, arith, subst, length}
 use Rattle.std.specs.Prelude.{is_some}
 use Rattle.seq_theory.specs.Problem.{IsWithin, pass_part}
 use Rattle.seq_theory.specs.Tree.{ask}

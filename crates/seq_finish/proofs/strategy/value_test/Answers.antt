@@ -1,5 +1,4 @@
-use Rattle.std.proofs.Common.{◌≡◌, ◌+◌, ◌<◌, ◌≤◌, sym, ◌∙◌, arith, Some, ℕ}
-use Rattle.std.specs.Prelude.{true}
+use Rattle.std.proofs.Common.{◌+◌, ◌<◌, sym, ◌∙◌, arith, Some}
 use Rattle.std.proofs.lemmas.Bool.{true≢false}
 use Rattle.seq_theory.specs.Problem.{splits}
 use Rattle.seq_theory.specs.Graph.{val, is_value, step_value}
