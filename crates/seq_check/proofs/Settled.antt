@@ -8,7 +8,7 @@ use Rattle.std.proofs.lemmas.List.Elements.{All-push}
 use Rattle.seq_theory.specs.Problem.{Problem, IsWithin, pass_part, fail_part, splits, is_end}
 use Rattle.seq_inst.specs.Members.{members}
 use Rattle.seq_inst.specs.declared.group.Group.{Group}
-use Rattle.seq_inst.proofs.SolveLaws.{within-pass, within-fail}
+use Rattle.seq_inst.proofs.WithinLaws.{within-pass, within-fail}
 use Rattle.seq_cert.specs.declared.report.TreeLine.{TreeLine}
 use Rattle.seq_cert.specs.declared.report.TreeLine.TheVariants.{Ask}
 use Rattle.seq_check.specs.TreeLooks.{settles, left_after}

@@ -18,7 +18,7 @@ use Rattle.seq_inst.specs.declared.instance.Instance.{Instance}
 use Rattle.seq_inst.specs.Members.{members}
 use Rattle.seq_inst.specs.Instances.{problem_of}
 use Rattle.seq_inst.proofs.MembersLaws.{length-members_below}
-use Rattle.seq_inst.proofs.SolveLaws.{light}
+use Rattle.seq_inst.proofs.WithinLaws.{light}
 use Rattle.seq_huff.proofs.Written.{passing-all, length-passing}
 
 sum-weights : (p : Problem) (xs : List ℕ) → sum (map p.weight xs) ≡ weight_of p xs

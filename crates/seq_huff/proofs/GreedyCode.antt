@@ -12,7 +12,7 @@ use Rattle.seq_inst.specs.declared.instance.Instance.{Instance}
 use Rattle.seq_inst.specs.Members.{members}
 use Rattle.seq_inst.specs.Instances.{problem_of}
 use Rattle.seq_inst.proofs.MembersLaws.{length-members_below}
-use Rattle.seq_inst.proofs.SolveLaws.{light}
+use Rattle.seq_inst.proofs.WithinLaws.{light}
 use Rattle.seq_huff.proofs.BoundFits.{product-le}
 use Rattle.seq_theory.proofs.PartsRecursion.{splitting-splits, splitting-there}
 use Rattle.seq_theory.proofs.GroupLaws.{pass_part_smaller, fail_part_smaller}

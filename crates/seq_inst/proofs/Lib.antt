@@ -8,4 +8,4 @@ pub mod ShapeLaws
 pub mod CostCode
 pub mod WalkCode
 pub mod ValidLaws
-pub mod SolveLaws
+pub mod WithinLaws

@@ -4,4 +4,3 @@ pub mod Instances
 pub mod Answers
 pub mod Trees
 pub mod Shapes
-pub mod Solved

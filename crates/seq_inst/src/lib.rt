@@ -1,8 +1,6 @@
 //! Instances of test sequencing as the program holds them: groups of classes as 512 bits, weights,
 //! costs, which classes pass each test, and strategies. `problem_of`, `members` and `tree_of` read
 //! them into the theory, and each call here says its result by the theory's words.
-//!
-//! `solve_small` finds a strategy of least cost by plain recursion, for instances of a few tests.
 #![tactic(auto)]
 
 mod costs;
@@ -10,7 +8,6 @@ mod group;
 mod instance;
 mod outcome;
 mod parts;
-mod solve;
 mod strategy;
 #[cfg(test)]
 mod tests;
@@ -22,7 +19,6 @@ pub use group::{Group, count_of};
 pub use instance::Instance;
 pub use outcome::{Outcome, Row, Verdict};
 pub use parts::{Answer, is_leaf, part, root, splits};
-pub use solve::solve_small;
 pub use strategy::{Strategy, ask_first};
 pub use walks::{Walk, walk_of};
 pub use weights::weight_of;

@@ -2,8 +2,8 @@
 ghost use Rattle.std.specs.Prelude.{◌≡◌, [], ◌∷◌, IfOk};
 
 use crate::{
-    Answer, Group, Instance, Strategy, ask_first, cost_of, count_of, part, root, solve_small,
-    splits, walk_of, weight_of,
+    Answer, Group, Instance, Strategy, ask_first, cost_of, count_of, part, root, splits, walk_of,
+    weight_of,
 };
 use std::alloc::{AllocError, Global};
 use std::test::Fail;
@@ -52,16 +52,5 @@ fn a_strategy_and_its_walks(rt: HostRuntime) -> Result<(), Fail> {
     assert_eq!(rt; walk.leaf, 2);
     assert_eq!(rt; walk.tests, 1);
     assert_eq!(rt; walk.cost, 2);
-    Ok(())
-}
-
-#[test]
-fn the_least_cost_of_two_faults(rt: HostRuntime) -> Result<(), Fail> {
-    let alloc = rt.alloc();
-    let inst = two_faults(alloc)?;
-    let strategy = solve_small(alloc, &inst)?;
-    assert_eq!(rt; cost_of(&inst, &strategy, &root(&inst)), 27);
-    let walk = walk_of(&inst, &strategy, 1);
-    assert_eq!(rt; walk.tests, 1);
     Ok(())
 }

@@ -25,8 +25,6 @@ pub enum Code {
     M13,
     M14,
     M15,
-    /// The form of the text is not solved yet.
-    Later,
 }
 
 #[derive(Clone, Copy, Debug)]

@@ -2,7 +2,7 @@
 use Rattle.std.specs.Prelude.{ℕ, List, [], ◌∷◌, ◌++◌, decimal, codes, Option, Some, None}
 use Rattle.sig_types.specs.declared.refusals.Refusal.{Refusal}
 use Rattle.sig_types.specs.declared.refusals.Code.{Code}
-use Rattle.sig_types.specs.declared.refusals.Code.TheVariants.{M01, M02, M03, M04, M05, M06, M07, M08, M09, M10, M11, M12, M13, M14, M15, Later}
+use Rattle.sig_types.specs.declared.refusals.Code.TheVariants.{M01, M02, M03, M04, M05, M06, M07, M08, M09, M10, M11, M12, M13, M14, M15}
 use Rattle.sig_types.specs.declared.refusals.Place.{Place}
 use Rattle.sig_types.specs.declared.refusals.Place.TheVariants.{Document, States, ModeOption, Count, In}
 use Rattle.sig_types.specs.declared.refusals.Counted.{Counted}
@@ -28,7 +28,6 @@ code_word M12 = codes "M12"
 code_word M13 = codes "M13"
 code_word M14 = codes "M14"
 code_word M15 = codes "M15"
-code_word Later = codes "later"
 
 abbrev pub counted_word : Counted → List ℕ
 counted_word ManySignals = codes "signals"

@@ -26,7 +26,6 @@ fn code_word(code: Code) -> &'static str
         Code::M13 => "M13",
         Code::M14 => "M14",
         Code::M15 => "M15",
-        Code::Later => "later",
     }
 }
 

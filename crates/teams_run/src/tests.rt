@@ -4,6 +4,7 @@ use super::*;
 use crate::texts::*;
 use sig_edge::{MemShelf, MemSink};
 use std::alloc::{AllocError, Global};
+use std::str;
 use std::test::Fail;
 
 fn words_of(alloc: Global, texts: &[&str]) -> Result<Vec<String>, AllocError> {
@@ -56,6 +57,7 @@ fn reports(rt: HostRuntime) -> Result<(), Fail> {
         (ALONE, ALONE_REPORT),
         (RING, RING_REPORT),
         (RADIO, RADIO_REPORT),
+        (STAR, STAR_REPORT),
     ] {
         let (status, wrote) = ran(alloc, &["solve", "m.toml"], text.as_bytes())?;
         assert_eq!(rt; status.number(), 0);
@@ -100,7 +102,6 @@ fn refusals(rt: HostRuntime) -> Result<(), Fail> {
         (OWN_BLOCK, "refused M10 at block[0].use[0].block\n"),
         (MODELESS, "refused M12 at block[0].link[0]\n"),
         (STATELESS, "refused M14 at states\n"),
-        (SEVEN_TESTS, "refused later at document\n"),
     ] {
         let (status, wrote) = ran(alloc, &["solve", "m.toml"], text.as_bytes())?;
         assert_eq!(rt; wrote.as_slice(), line.as_bytes());
@@ -122,7 +123,14 @@ fn commands(rt: HostRuntime) -> Result<(), Fail> {
     let alloc = rt.alloc();
     let text = BOX.as_bytes();
     for words in [
-        ["solve", "m.toml", "--workers=0", "--mode=normal"].as_slice(),
+        [
+            "solve",
+            "m.toml",
+            "--workers=0",
+            "--groups=00005",
+            "--mode=normal",
+        ]
+        .as_slice(),
         ["matrix", "m.toml", "--mode=normal"].as_slice(),
         ["figures", "m.toml"].as_slice(),
     ] {
@@ -138,6 +146,12 @@ fn commands(rt: HostRuntime) -> Result<(), Fail> {
         ["solve", "m.toml", "x"].as_slice(),
         ["solve", "m.toml", "--mode="].as_slice(),
         ["solve", "m.toml", "--workers=17"].as_slice(),
+        ["solve", "m.toml", "--groups=0"].as_slice(),
+        ["solve", "m.toml", "--groups=32769"].as_slice(),
+        ["solve", "m.toml", "--groups=000005"].as_slice(),
+        ["solve", "m.toml", "--groups=5", "--groups=5"].as_slice(),
+        ["solve", "m.toml", "--cert=c"].as_slice(),
+        ["check", "m.toml"].as_slice(),
         ["solve", "m.toml", "--mode=normal", "--workers=0"].as_slice(),
         ["solve", "m.toml", "--mode=normal", "--mode=normal"].as_slice(),
         ["matrix", "m.toml", "--workers=0"].as_slice(),
@@ -226,8 +240,141 @@ fn many_groups(rt: HostRuntime) -> Result<(), Fail> {
         assert_eq!(rt; status.number(), 0);
     }
     let text = coded(alloc, 512)?;
+    let (status, _wrote) = ran(alloc, &["solve", "m.toml"], text.as_str().as_bytes())?;
+    assert_eq!(rt; status.number(), 0);
+    Ok(())
+}
+
+/// Where the limit of groups is met, a right strategy with its gap comes.
+#[test]
+fn limits(rt: HostRuntime) -> Result<(), Fail> {
+    let alloc = rt.alloc();
+    for (text, groups, number, report) in [
+        (STAR, "--groups=5", 0, STAR_REPORT),
+        (STAR, "--groups=4", 3, SHORT_STAR_REPORT),
+        (HALVES, "--groups=2", 3, SHORT_HALVES_REPORT),
+    ] {
+        let (status, wrote) = ran(alloc, &["solve", "m.toml", groups], text.as_bytes())?;
+        assert_eq!(rt; status.number(), number);
+        if number == 3 {
+            assert_eq!(rt; wrote.as_slice(), report.as_bytes());
+        }
+    }
+    Ok(())
+}
+
+/// How `check` ends on a model and a certificate, and what it writes.
+fn checked(alloc: Global, text: &str, cert: &str) -> Result<(Status, Vec<u8>), AllocError> {
+    let mut shelf = MemShelf::new(alloc, Vec::new(alloc));
+    shelf.add("m.toml", text.as_bytes())?;
+    shelf.add("c", cert.as_bytes())?;
+    let mut sink = MemSink::new(alloc, 4096, 4096, Vec::new(alloc))?;
+    let words = words_of(alloc, &["check", "m.toml", "--cert=c"])?;
+    let status = run(alloc, words.as_slice(), &mut shelf, &mut sink);
+    let wrote = Vec::from_slice(alloc, sink.wrote())?;
+    Ok((status, wrote))
+}
+
+/// What was written by `solve` is accepted.
+#[test]
+fn certificates(rt: HostRuntime) -> Result<(), Fail> {
+    let alloc = rt.alloc();
+    for (text, report, line) in [
+        (BOX, BOX_REPORT, "accepted optimal cost 27 low 27\n"),
+        (UNTESTED, UNTESTED_REPORT, "accepted optimal cost 0 low 0\n"),
+        (RADIO, RADIO_REPORT, "accepted optimal cost 84 low 84\n"),
+        (STAR, STAR_REPORT, "accepted optimal cost 14 low 14\n"),
+        (STAR, SHORT_STAR_REPORT, "accepted bounded cost 14 low 13\n"),
+        (
+            HALVES,
+            SHORT_HALVES_REPORT,
+            "accepted bounded cost 26 low 25\n",
+        ),
+    ] {
+        let (status, wrote) = checked(alloc, text, report)?;
+        assert_eq!(rt; wrote.as_slice(), line.as_bytes());
+        assert_eq!(rt; status.number(), 0);
+    }
+    Ok(())
+}
+
+/// The report of the box with one text of it replaced.
+#[test]
+fn altered_certificates(rt: HostRuntime) -> Result<(), Fail> {
+    let alloc = rt.alloc();
+    for (old, new, line) in [
+        ("cost 27", "cost 26", "rejected line 8 C04\n"),
+        ("group 3 7 27", "group 3 7 28", "rejected line 26 C07\n"),
+        (
+            "group 3 7 27\nend\n",
+            "group 3 7 27\n",
+            "rejected line 27 C01\n",
+        ),
+        ("ask 0\nask 1", "ask 0\nask 0", "rejected line 22 C03\n"),
+        ("weight 10", "weight 11", "rejected line 6 C02\n"),
+        ("low 27", "low 28", "rejected line 9 C05\n"),
+        (
+            "low 27",
+            "low 18446744073709551615",
+            "rejected line 9 C05\n",
+        ),
+        ("gap 0", "gap 1", "rejected line 10 C05\n"),
+        ("group 3 7 27", "group 3 f 27", "rejected line 26 C06\n"),
+        (
+            "group 3 7 27",
+            "group 3 7 18446744073709551615",
+            "rejected line 26 C07\n",
+        ),
+        ("group 3 7 27", "group 3 7 26", "rejected line 26 C08\n"),
+        ("end\n", "end\n\n", "rejected line 28 C01\n"),
+        ("cost 27", "cost 027", "rejected line 8 C01\n"),
+    ] {
+        let cert = BOX_REPORT.replacen(alloc, old, new, 1)?;
+        let (status, wrote) = checked(alloc, BOX, cert.as_str())?;
+        assert_eq!(rt; wrote.as_slice(), line.as_bytes());
+        assert_eq!(rt; status.number(), 7);
+    }
+    let mut shelf = MemShelf::new(alloc, Vec::new(alloc));
+    shelf.add("m.toml", BOX.as_bytes())?;
+    let mut sink = MemSink::new(alloc, 64, 64, Vec::new(alloc))?;
+    let words = words_of(alloc, &["check", "m.toml", "--cert=c"])?;
+    let status = run(alloc, words.as_slice(), &mut shelf, &mut sink);
+    assert_eq!(rt; status.number(), 8);
+    Ok(())
+}
+
+/// The greatest weights and costs: a chain of a hundred parts.
+#[test]
+fn greatest_numbers(rt: HostRuntime) -> Result<(), Fail> {
+    let alloc = rt.alloc();
+    let mut text = String::from_str(
+        alloc,
+        "version = 1\ngood = 1000000\ntop = \"b\"\nsignals = [\"s\"]\n[[block]]\nname = \"b\"\n",
+    )?;
+    for k in 0..100u64 {
+        let part = format!(in alloc;
+            "[[block.part]]\nname = \"p{k}\"\nfunctional = 1000000\nsignals = [\"s\"]\n"
+        )?;
+        text.push_str(part.as_str())?;
+        let point = format!(in alloc;
+            "[[block.point]]\nname = \"x{k}\"\ntest = [{{name = \"t\", cost = 1000000, signals = [\"s\"]}}]\n"
+        )?;
+        text.push_str(point.as_str())?;
+        let link = format!(in alloc; "[[block.link]]\nfrom = \"p{k}\"\nto = \"x{k}\"\n")?;
+        text.push_str(link.as_str())?;
+    }
+    for k in 1..100u64 {
+        let before = k - 1;
+        let link = format!(in alloc; "[[block.link]]\nfrom = \"p{before}\"\nto = \"p{k}\"\n")?;
+        text.push_str(link.as_str())?;
+    }
     let (status, wrote) = ran(alloc, &["solve", "m.toml"], text.as_str().as_bytes())?;
-    assert_eq!(rt; status.number(), 1);
-    assert_eq!(rt; wrote.as_slice(), b"refused later at document\n".as_slice());
+    assert_eq!(rt; status.number(), 0);
+    let report = str::from_utf8(wrote.as_slice())?;
+    assert!(rt;
+        report.contains(
+            "\nweight 101000000\nresult optimal\ncost 680000000000000\nlow 680000000000000\ngap 0\nlimit 4000\ngroups 1\n"
+        )
+    );
     Ok(())
 }

@@ -200,6 +200,77 @@ point = [
 link = [{from = "A", to = "X"}, {from = "B", to = "X"}, {from = "A", to = "Y"}, {from = "B", to = "Y"}, {from = "B", to = "Z"}]
 "#;
 
+/// A point behind each of four parts.
+pub const STAR: &str = r#"version = 1
+good = 1
+top = "star"
+signals = ["s"]
+
+[[block]]
+name = "star"
+part = [
+  {name = "F1", functional = 1, signals = ["s"]},
+  {name = "F2", functional = 1, signals = ["s"]},
+  {name = "F3", functional = 1, signals = ["s"]},
+  {name = "F4", functional = 1, signals = ["s"]},
+]
+point = [
+  {name = "X1", test = [{name = "t", cost = 1, signals = ["s"]}]},
+  {name = "X2", test = [{name = "t", cost = 1, signals = ["s"]}]},
+  {name = "X3", test = [{name = "t", cost = 1, signals = ["s"]}]},
+  {name = "X4", test = [{name = "t", cost = 1, signals = ["s"]}]},
+]
+link = [
+  {from = "F1", to = "X1"}, {from = "F2", to = "X2"},
+  {from = "F3", to = "X3"}, {from = "F4", to = "X4"},
+]
+"#;
+
+/// A point that splits eight parts in halves, and one behind each.
+pub const HALVES: &str = r#"version = 1
+good = 0
+top = "halves"
+signals = ["s"]
+
+[[block]]
+name = "halves"
+part = [
+  {name = "F1", functional = 1, signals = ["s"]},
+  {name = "F2", functional = 1, signals = ["s"]},
+  {name = "F3", functional = 1, signals = ["s"]},
+  {name = "F4", functional = 1, signals = ["s"]},
+  {name = "F5", functional = 1, signals = ["s"]},
+  {name = "F6", functional = 1, signals = ["s"]},
+  {name = "F7", functional = 1, signals = ["s"]},
+  {name = "F8", functional = 1, signals = ["s"]},
+]
+point = [
+  {name = "X0", test = [{name = "t", cost = 1, signals = ["s"]}]},
+  {name = "X1", test = [{name = "t", cost = 1, signals = ["s"]}]},
+  {name = "X2", test = [{name = "t", cost = 1, signals = ["s"]}]},
+  {name = "X3", test = [{name = "t", cost = 1, signals = ["s"]}]},
+  {name = "X4", test = [{name = "t", cost = 1, signals = ["s"]}]},
+  {name = "X5", test = [{name = "t", cost = 1, signals = ["s"]}]},
+  {name = "X6", test = [{name = "t", cost = 1, signals = ["s"]}]},
+  {name = "X7", test = [{name = "t", cost = 1, signals = ["s"]}]},
+  {name = "X8", test = [{name = "t", cost = 1, signals = ["s"]}]},
+]
+link = [
+  {from = "F5", to = "X0"},
+  {from = "F6", to = "X0"},
+  {from = "F7", to = "X0"},
+  {from = "F8", to = "X0"},
+  {from = "F1", to = "X1"},
+  {from = "F2", to = "X2"},
+  {from = "F3", to = "X3"},
+  {from = "F4", to = "X4"},
+  {from = "F5", to = "X5"},
+  {from = "F6", to = "X6"},
+  {from = "F7", to = "X7"},
+  {from = "F8", to = "X8"},
+]
+"#;
+
 /// A part with an unknown key.
 pub const COLOURED: &str = r#"version = 1
 good = 6
@@ -283,27 +354,6 @@ name = "b"
 part = [{name = "A"}]
 "#;
 
-/// More tests than the solver takes.
-pub const SEVEN_TESTS: &str = r#"version = 1
-good = 1
-top = "b"
-signals = ["s"]
-
-[[block]]
-name = "b"
-part = [{name = "A", functional = 1, signals = ["s"]}]
-point = [{name = "X", test = [
-  {name = "t0", cost = 1, signals = ["s"]},
-  {name = "t1", cost = 1, signals = ["s"]},
-  {name = "t2", cost = 1, signals = ["s"]},
-  {name = "t3", cost = 1, signals = ["s"]},
-  {name = "t4", cost = 1, signals = ["s"]},
-  {name = "t5", cost = 1, signals = ["s"]},
-  {name = "t6", cost = 1, signals = ["s"]},
-]}]
-link = [{from = "A", to = "X"}]
-"#;
-
 pub const BOX_REPORT: &str = r#"teams report 1
 mode -
 states 3
@@ -315,7 +365,7 @@ cost 27
 low 27
 gap 0
 limit 4000
-groups 0
+groups 1
 class 0 6 1
 state 6 good
 class 1 3 1
@@ -329,6 +379,7 @@ ask 1
 leaf 0
 leaf 2
 leaf 1
+group 3 7 27
 end
 "#;
 
@@ -343,7 +394,7 @@ cost 8
 low 8
 gap 0
 limit 4000
-groups 0
+groups 1
 class 0 1 1
 state 1 good
 class 1 1 1
@@ -362,6 +413,7 @@ leaf 3
 ask 0
 leaf 2
 leaf 1
+group 4 f 8
 end
 "#;
 
@@ -396,7 +448,7 @@ cost 9
 low 9
 gap 0
 limit 4000
-groups 0
+groups 1
 class 0 6 2
 state 2 good
 state 4 B.f
@@ -406,6 +458,7 @@ test 0 1 X/t
 ask 0
 leaf 0
 leaf 1
+group 2 3 9
 end
 "#;
 
@@ -439,7 +492,7 @@ cost 3
 low 3
 gap 0
 limit 4000
-groups 0
+groups 1
 class 0 1 1
 state 1 good
 class 1 2 2
@@ -449,6 +502,7 @@ test 0 1 X/t
 ask 0
 leaf 0
 leaf 1
+group 2 3 3
 end
 "#;
 
@@ -463,7 +517,7 @@ cost 84
 low 84
 gap 0
 limit 4000
-groups 0
+groups 1
 class 0 10 1
 state 10 good
 class 1 4 1
@@ -482,6 +536,153 @@ ask 1
 leaf 3
 leaf 2
 leaf 1
+group 4 f 84
+end
+"#;
+
+pub const STAR_REPORT: &str = r#"teams report 1
+mode -
+states 5
+classes 5
+tests 4
+weight 5
+result optimal
+cost 14
+low 14
+gap 0
+limit 5
+groups 5
+class 0 1 1
+state 1 good
+class 1 1 1
+state 1 F1.f
+class 2 1 1
+state 1 F2.f
+class 3 1 1
+state 1 F3.f
+class 4 1 1
+state 1 F4.f
+test 0 1 X1/t
+test 1 1 X2/t
+test 2 1 X3/t
+test 3 1 X4/t
+ask 0
+ask 1
+ask 2
+ask 3
+leaf 0
+leaf 4
+leaf 3
+leaf 2
+leaf 1
+group 4 f 9
+group 4 17 9
+group 4 1b 9
+group 4 1d 9
+group 5 1f 14
+end
+"#;
+
+/// The report of the star where four groups may be entered.
+pub const SHORT_STAR_REPORT: &str = r#"teams report 1
+mode -
+states 5
+classes 5
+tests 4
+weight 5
+result bounded
+cost 14
+low 13
+gap 1
+limit 4
+groups 4
+class 0 1 1
+state 1 good
+class 1 1 1
+state 1 F1.f
+class 2 1 1
+state 1 F2.f
+class 3 1 1
+state 1 F3.f
+class 4 1 1
+state 1 F4.f
+test 0 1 X1/t
+test 1 1 X2/t
+test 2 1 X3/t
+test 3 1 X4/t
+ask 0
+ask 1
+ask 2
+ask 3
+leaf 0
+leaf 4
+leaf 3
+leaf 2
+leaf 1
+group 4 17 9
+group 4 1b 9
+group 4 1d 9
+group 5 1f 13
+missed 4 f
+end
+"#;
+
+/// The report of the halves where two groups may be entered.
+pub const SHORT_HALVES_REPORT: &str = r#"teams report 1
+mode -
+states 8
+classes 8
+tests 9
+weight 8
+result bounded
+cost 26
+low 25
+gap 1
+limit 2
+groups 2
+class 0 1 1
+state 1 F1.f
+class 1 1 1
+state 1 F2.f
+class 2 1 1
+state 1 F3.f
+class 3 1 1
+state 1 F4.f
+class 4 1 1
+state 1 F5.f
+class 5 1 1
+state 1 F6.f
+class 6 1 1
+state 1 F7.f
+class 7 1 1
+state 1 F8.f
+test 0 1 X0/t
+test 1 1 X1/t
+test 2 1 X2/t
+test 3 1 X3/t
+test 4 1 X4/t
+test 5 1 X5/t
+test 6 1 X6/t
+test 7 1 X7/t
+test 8 1 X8/t
+ask 0
+ask 1
+ask 2
+ask 3
+leaf 3
+leaf 2
+leaf 1
+leaf 0
+ask 5
+ask 6
+ask 7
+leaf 7
+leaf 6
+leaf 5
+leaf 4
+group 4 f 9
+group 8 ff 25
+missed 4 f0
 end
 "#;
 

@@ -1,6 +1,6 @@
 use Rattle.seq_inst.specs.Instances.{problem_of}
 use Rattle.seq_inst.specs.Members.{members}
-use Rattle.seq_inst.proofs.SolveLaws.{within-pass, within-fail}
+use Rattle.seq_inst.proofs.WithinLaws.{within-pass, within-fail}
 use Rattle.seq_check.proofs.claim.sum_of.Goals as goal
 
 pub counted-pass-requires : goal.counted-pass-requires

@@ -2,7 +2,7 @@ use Rattle.std.proofs.Common.{◌≡◌, ◌++◌, ◌∷◌, [], List, get_or, 
 use Rattle.std.proofs.lemmas.List.{get_or_default}
 use Rattle.seq_inst.specs.Instances.{problem_of}
 use Rattle.seq_inst.specs.Members.{members}
-use Rattle.seq_inst.proofs.SolveLaws.{light}
+use Rattle.seq_inst.proofs.WithinLaws.{light}
 use Rattle.seq_cert.specs.declared.report.TreeLine.{TreeLine}
 use Rattle.seq_check.specs.TreeLooks.{left_after}
 use Rattle.seq_check.specs.Walked.{waiting}

@@ -2,7 +2,7 @@ use Rattle.std.proofs.Common.{◌≡◌, ◌<◌, sym, ◌∙◌, arith}
 use Rattle.std.proofs.lemmas.List.{get_or_read}
 use Rattle.seq_inst.specs.Members.{members}
 use Rattle.seq_inst.specs.Instances.{problem_of}
-use Rattle.seq_inst.proofs.SolveLaws.{light, within-pass, within-fail}
+use Rattle.seq_inst.proofs.WithinLaws.{light, within-pass, within-fail}
 use Rattle.seq_huff.proofs.BoundFits.{product-le}
 use Rattle.seq_core.specs.Settled.{groups_in}
 use Rattle.seq_finish.proofs.StratLaws.{value-small}

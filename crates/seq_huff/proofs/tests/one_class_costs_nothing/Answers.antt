@@ -1,7 +1,7 @@
 use Rattle.seq_inst.specs.Instances.{problem_of}
 use Rattle.seq_inst.specs.Members.{members}
 use Rattle.seq_inst.proofs.RootLaws.{within-all}
-use Rattle.seq_inst.proofs.SolveLaws.{within-fail}
+use Rattle.seq_inst.proofs.WithinLaws.{within-fail}
 use Rattle.seq_huff.proofs.tests.one_class_costs_nothing.Goals as goal
 
 pub huffman-requires : goal.huffman-requires

@@ -7,7 +7,7 @@ use Rattle.seq_inst.specs.Instances.{problem_of}
 use Rattle.seq_inst.specs.Shapes.{height}
 use Rattle.seq_inst.specs.Trees.{tree_of}
 use Rattle.seq_inst.specs.declared.strategy.Strategy.{Strategy}
-use Rattle.seq_inst.proofs.SolveLaws.{light}
+use Rattle.seq_inst.proofs.WithinLaws.{light}
 use Rattle.seq_inst.proofs.CostCode.{may_go_on, ask_sum}
 use Rattle.seq_inst.proofs.costs.+cost_of.Goals as goal
 
