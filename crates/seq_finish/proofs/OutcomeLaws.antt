@@ -5,13 +5,17 @@ use Rattle.std.specs.Prelude.{true, false, All, IsSome, is_some, slice_index_or,
 use Rattle.std.proofs.lemmas.Bool.{cases_Bool, cases_lt}
 use Rattle.std.proofs.lemmas.List.Elements.{All-map}
 use Rattle.seq_theory.specs.Problem.{Problem, IsWithin, all_classes, is_end}
-use Rattle.seq_theory.specs.Tree.{Tree, tree_cost, Solves}
+use Rattle.seq_theory.specs.Tree.{Tree, AsksOnly, tree_cost, Solves}
 use Rattle.seq_theory.specs.Graph.{same_group, is_entered, low, val, strat, IsReal}
 use Rattle.seq_theory.specs.Rows.{IsRow, AreDistinct, IsSound}
 use Rattle.seq_theory.proofs.LeastLaws.{count_up-IsIn}
 use Rattle.seq_theory.proofs.PublicLaws.{entered_holds}
 use Rattle.seq_theory.proofs.RowLaws.{same_group-refl, or-left, or-right, wanted-within}
-use Rattle.seq_theory.proofs.ValLaws.{val-end, val-entered}
+use Rattle.seq_theory.proofs.ValLaws.{val-end, val-entered, least-le-val}
+use Rattle.seq_theory.proofs.LowLaws.{low-le-least}
+use Rattle.seq_theory.proofs.StratLaws.{strat-holds}
+use Rattle.seq_theory.proofs.LeastLaws.{least}
+use Rattle.seq_huff.proofs.LeastBounds.{weighed}
 use Rattle.seq_inst.specs.declared.group.Group.{Group}
 use Rattle.seq_inst.specs.declared.outcome.Row.{Row}
 use Rattle.seq_inst.specs.declared.outcome.Verdict.TheVariants.{Optimal, Bounded}
@@ -154,6 +158,7 @@ module _ (p : Problem) where
 pub outcome-shape : (inst : Instance) (entered : List (List ℕ)) (tree : Tree)
     → (is_end (problem_of inst) (all_classes (problem_of inst)) ≡ false → is_entered entered (all_classes (problem_of inst)) ≡ true)
     → tree ≡ strat (problem_of inst) entered (all_classes (problem_of inst)) → record {
+      there : AsksOnly (problem_of inst).tests tree;
       splitting : AsksSplitting (problem_of inst) tree (all_classes (problem_of inst));
       leaves : leaf_count tree ≤ vec_len inst.weights;
       short : height tree ≤ 512;
@@ -168,4 +173,13 @@ outcome-shape inst entered tree root is =
     let leaves = leaves-le p tree (all_classes p) splitting (omega arith) in
     let high = height-lt-leaves tree in
     let n = inst.weights.ok.0 in
-    record { splitting = splitting; leaves = omega arith; short = omega arith }
+    let holds = strat-holds p entered (all_classes p) v.0 inst.valid.told (within-all p) v.1 in
+    record { there = subst (λ t. AsksOnly p.tests t) (sym is) holds.solves.there; splitting = splitting; leaves = omega arith; short = omega arith }
+
+-- the low over all classes is not above their value
+pub outcome-proper : (inst : Instance) (entered : List (List ℕ)) (n v : ℕ) → n ≡ low (problem_of inst) entered (all_classes (problem_of inst)) → val (problem_of inst) entered (all_classes (problem_of inst)) ≡ Some v → n ≤ v
+outcome-proper inst entered n v is e =
+    let p = problem_of inst in
+    let a = low-le-least p entered (all_classes p) (weighed inst) inst.valid.told (within-all p) in
+    let b = least-le-val p entered (all_classes p) v inst.valid.told (within-all p) e in
+    omega arith

@@ -1,6 +1,7 @@
 //! The outcome of a search's rows.
 ghost use Rattle.std.specs.Prelude.{◌≡◌, ◌≤◌, ◌↔◌, false, true, IfOk, None, vec_len};
 ghost use Rattle.seq_theory.specs.Problem.{all_classes, is_end};
+ghost use Rattle.seq_theory.specs.Tree.{AsksOnly};
 ghost use Rattle.seq_theory.specs.Graph.{is_entered, low, val};
 ghost use Rattle.seq_theory.specs.Rows.{IsSound};
 ghost use Rattle.seq_inst.specs.Instances.{problem_of};
@@ -56,6 +57,8 @@ pub fn finish(
     ensures right { IfOk result (IsRightOutcome (problem_of inst.now) limit) }
     ensures rows { IfOk result (λ o. o.rows.items ≡ settled_rows (problem_of inst.now) rows.items) }
     ensures missed { IfOk result (λ o. o.verdict ≡ Verdict.Bounded → o.missed ≡ missed) }
+    ensures proper { IfOk result (λ o. o.low ≤ o.cost) }
+    ensures there { IfOk result (λ o. AsksOnly (problem_of inst.now).tests (tree_of o.strategy)) }
     ensures splitting { IfOk result (λ o. AsksSplitting (problem_of inst.now) (tree_of o.strategy) (all_classes (problem_of inst.now))) }
     ensures leaves { IfOk result (λ o. leaf_count (tree_of o.strategy) ≤ vec_len inst.now.weights) }
     ensures short { IfOk result (λ o. height (tree_of o.strategy) ≤ 512) }

@@ -9,7 +9,7 @@ use Rattle.seq_inst.proofs.RootLaws.{within-all}
 use Rattle.seq_core.specs.Tables.{numbered}
 use Rattle.seq_core.specs.Settled.{groups_in, AreGroups, settled_rows}
 use Rattle.seq_finish.specs.Outcomes.{IsSettled}
-use Rattle.seq_finish.proofs.OutcomeLaws.{rows-groups, settled-all, settled-entered, are-entered, root-valued, outcome-right, outcome-shape}
+use Rattle.seq_finish.proofs.OutcomeLaws.{rows-groups, settled-all, settled-entered, are-entered, root-valued, outcome-right, outcome-shape, outcome-proper}
 use Rattle.seq_finish.proofs.ending.finish.Goals as goal
 
 pub settle-requires : goal.settle-requires
@@ -64,6 +64,24 @@ bounds_of-bounds-requires-clause-valued c =
     let same : c.as_slice-4.result.now ≡ settled_rows p c.args.rows.items = c.as_slice-4.ensures.value ∙ c.in_ok-rows.ensures ∙ ap (settled_rows p) c.as_slice.ensures.value in
     subst (λ g. IsSome (val p g (members c.root-all.result))) (sym (ap groups_in same ∙ settled-entered p c.args.rows.items))
     (subst (λ g. IsSome (val p (groups_in c.args.rows.items) g)) (sym c.root-all.ensures) (root-valued p (groups_in c.args.rows.items) c.requires.root))
+
+pub returns-clause-proper : goal.returns-clause-proper
+returns-clause-proper c =
+    let p = problem_of c.args.inst.now in
+    let rows = c.args.rows.items in
+    let items : c.in_ok-rows.rows.items ≡ settled_rows p rows = c.in_ok-rows.ensures ∙ ap (settled_rows p) c.as_slice.ensures.value in
+    let same3 : groups_in c.as_slice-4.result.now ≡ groups_in rows = ap groups_in (c.as_slice-4.ensures.value ∙ items) ∙ settled-entered p rows in
+    outcome-proper c.args.inst.now (groups_in rows) c.bounds_of-bounds.result.low c.bounds_of-bounds.result.cost
+    (c.bounds_of-bounds.ensures.low ∙ ap (λ g. low p g (members c.root-all.result)) same3 ∙ ap (low p (groups_in rows)) c.root-all.ensures)
+    (sym (ap (λ g. val p g (members c.root-all.result)) same3 ∙ ap (val p (groups_in rows)) c.root-all.ensures) ∙ c.bounds_of-bounds.ensures.cost)
+
+pub returns-clause-there : goal.returns-clause-there
+returns-clause-there c =
+    let p = problem_of c.args.inst.now in
+    let rows = c.args.rows.items in
+    let items : c.in_ok-rows.rows.items ≡ settled_rows p rows = c.in_ok-rows.ensures ∙ ap (settled_rows p) c.as_slice.ensures.value in
+    let same2 : groups_in c.as_slice-3.result.now ≡ groups_in rows = ap groups_in (c.as_slice-3.ensures.value ∙ items) ∙ settled-entered p rows in
+    (outcome-shape c.args.inst.now (groups_in rows) (tree_of c.in_ok-strategy.strategy) c.requires.root (c.in_ok-strategy.ensures ∙ ap (λ g. strat p g (members c.root-all.result)) same2 ∙ ap (strat p (groups_in rows)) c.root-all.ensures)).there
 
 pub returns-clause-right : goal.returns-clause-right
 returns-clause-right c =
