@@ -4,7 +4,6 @@
 ghost use Rattle.std.specs.Prelude.{◌≡◌, ◌^◌, ◌<◌, ◌-◌, IfOk, length};
 ghost use Rattle.seq_inst.specs.Instances.{problem_of};
 ghost use Rattle.seq_cert.specs.LabelsOf.{AreLabelsOf};
-ghost use Rattle.seq_cert.specs.ReportForm.{IsReport};
 ghost use Rattle.seq_cert.specs.Text.{report_lines};
 ghost use Rattle.seq_check.specs.Looks.{first_bad};
 ghost use Rattle.seq_theory.specs.Problem.{all_classes};
@@ -138,7 +137,6 @@ pub fn check(
     report: &Report,
 ) -> Result<Verdict, ReportFault>
     requires labels { AreLabelsOf (problem_of inst.now) labels.now }
-    requires form { IsReport report.now }
     requires short { length (report_lines report.now) < 2 ^ 32 - 1 }
     // Bad exactly where a line is bad, with the first such line.
     ensures judges { Judges report.now.verdict (first_bad (looks (problem_of inst.now) labels.now report.now)) result }

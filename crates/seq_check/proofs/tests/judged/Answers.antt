@@ -49,8 +49,5 @@ check-requires-clause-labels c =
     let own = subst (λ (l : Labels). AreLabelsOf (problem_from (6 ∷ 3 ∷ 1 ∷ []) (2 ∷ 1 ∷ []) passes) l) (states ∙ tests) (theirs passes mode) in
     subst (λ (p : Problem). AreLabelsOf p (made c.in_ok-states.states c.in_ok-tests.tests)) problem own
 
-pub check-requires-clause-form : goal.check-requires-clause-form
-check-requires-clause-form c = c.in_ok-report.ensures.found.0
-
 pub check-requires-clause-short : goal.check-requires-clause-short
 check-requires-clause-short c = let short = c.in_ok-report.ensures.short in let most = c.requires in omega arith
