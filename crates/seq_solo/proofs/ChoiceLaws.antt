@@ -4,7 +4,7 @@ use Rattle.std.specs.Prelude.{Bool, true, false, cond, nat_le, map, filter}
 use Rattle.std.specs.List.{filter_map, cons_option}
 use Rattle.seq_theory.specs.Problem.{Problem, IsIn, IsWithin, AreTold, splits, splitting, weight_of, is_end, least_of}
 use Rattle.seq_theory.specs.Bound.{bound, step_sum}
-use Rattle.seq_theory.specs.Greedy.{first_least}
+use Rattle.seq_theory.specs.Greedy.{first_least, greedy_test}
 use Rattle.seq_theory.proofs.LeastOfLaws.{first_least-last, first_least-is}
 use Rattle.seq_theory.proofs.LeastLaws.{least_of-le, step_reaches, IsIn-count_up}
 use Rattle.seq_theory.proofs.GroupLaws.{IsIn-filter}
@@ -144,3 +144,8 @@ sum-fits inst g cost weight test within there c w =
     let most = (inst.valid.costs test there).1 in
     let l = light inst g within in
     product-le cost weight 1000000 4097000000 (omega arith) (omega arith)
+
+-- the greedy test is the first of least sum over bounds
+pub greedy_test-is : (p : Problem) (group : List ℕ) (t : ℕ) → t ≡ first_least (step_sum p (bound p) group) (splitting p group) → t ≡ greedy_test p group
+unfolding greedy_test
+greedy_test-is p group t e = e

@@ -4,3 +4,4 @@ pub mod EventLaws
 pub mod OpenLaws
 pub mod StepLaws
 pub mod FoundLaws
+pub mod MemoLaws

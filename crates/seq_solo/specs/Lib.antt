@@ -4,3 +4,5 @@ pub mod Steps
 pub mod Parts
 pub mod Walks
 pub mod Found
+pub mod Memos
+pub mod Tools

@@ -13,11 +13,14 @@ ghost use Rattle.seq_solo.specs.Found.{BeginsWithAll, HasEnded};
 
 use crate::events::enter;
 use crate::found::Found;
+use crate::tools::new_tools;
 use crate::turn::turn;
 use seq_core::Places;
-use seq_huff::Scratch;
 use seq_inst::{Instance, is_leaf, root};
 use std::alloc::{AllocError, Global};
+
+/// How many groups are remembered for each that may be entered.
+const MEMO_GROUPS: u32 = 16;
 
 /// Searches with room for so many groups.
 pub fn solve_alone(alloc: Global, inst: &Instance, limit: u32) -> Result<Found, AllocError>
@@ -35,10 +38,10 @@ pub fn solve_alone(alloc: Global, inst: &Instance, limit: u32) -> Result<Found, 
         return Ok(Found { rows, missed: None });
     }
     let mut places = Places::new(alloc, limit)?;
-    let mut scratch = Scratch::new();
-    enter(&mut scratch, inst, &mut rows, &mut places, &all)?;
+    let mut tools = new_tools(alloc, inst, MEMO_GROUPS * limit)?;
+    enter(&mut tools, inst, &mut rows, &mut places, &all)?;
     'turns: while rows[0].low != rows[0].up {
-        if let Some(missed) = turn(&mut scratch, inst, limit, &mut rows, &mut places, 0)? {
+        if let Some(missed) = turn(&mut tools, inst, limit, &mut rows, &mut places, 0)? {
             return Ok(Found {
                 rows,
                 missed: Some(missed),

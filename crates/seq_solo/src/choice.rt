@@ -11,11 +11,13 @@ ghost use Rattle.seq_inst.specs.Members.{members};
 ghost use Rattle.seq_inst.specs.Instances.{problem_of};
 ghost use Rattle.seq_core.specs.RowsOf.{rows_of as rows_from};
 ghost use Rattle.seq_solo.specs.Known.{IsKnown};
+ghost use Rattle.seq_solo.specs.Tools.{AreTools};
 ghost use Rattle.seq_solo.specs.Choice.{lesser_choice, lesser_value};
 
+use crate::greedy::greedy_of;
 use crate::known::{low_of, up_of};
+use crate::tools::Tools;
 use seq_core::Places;
-use seq_huff::{Scratch, greedy_cost};
 use seq_inst::{Answer, Group, Instance, Row, part, splits, weight_of};
 
 /// A test and its sum.
@@ -26,7 +28,7 @@ pub(crate) struct Chosen {
 }
 
 /// The earlier choice, unless the new sum is less.
-fn choose(earlier: Option<Chosen>, test: u32, sum: u64) -> Chosen
+pub(crate) fn choose(earlier: Option<Chosen>, test: u32, sum: u64) -> Chosen
     ensures { result ≡ lesser_choice earlier test sum }
 {
     match earlier {
@@ -37,7 +39,7 @@ fn choose(earlier: Option<Chosen>, test: u32, sum: u64) -> Chosen
 
 /// The sum of a test over the group, of which the weight is known, and what its parts count.
 fn low_sum(
-    scratch: &mut Scratch,
+    tools: &mut Tools,
     inst: &Instance,
     rows: &[Row],
     places: &Places,
@@ -45,30 +47,34 @@ fn low_sum(
     test: u32,
     weight: u64,
 ) -> u64
+    requires tools { AreTools (problem_of inst.now) tools.old }
     requires known { IsKnown (problem_of inst.now) rows.now places.now.placed }
     requires within { IsWithin (problem_of inst.now) (members group.now) }
     requires there { test < vec_len inst.now.costs }
     requires weight { weight ≡ weight_sum (problem_of inst.now) (members group.now) }
-    ensures { result ≡ step_sum (problem_of inst.now) (known_low (problem_of inst.now) (rows_from rows.now)) (members group.now) test }
+    ensures tools { AreTools (problem_of inst.now) tools.new }
+    ensures value { result ≡ step_sum (problem_of inst.now) (known_low (problem_of inst.now) (rows_from rows.now)) (members group.now) test }
 {
     let pass_part = part(inst, group, test, Answer::Pass);
-    let pass = low_of(scratch, inst, rows, places, &pass_part);
+    let pass = low_of(tools, inst, rows, places, &pass_part);
     let fail_part = part(inst, group, test, Answer::Fail);
-    let fail = low_of(scratch, inst, rows, places, &fail_part);
+    let fail = low_of(tools, inst, rows, places, &fail_part);
     u64::from(inst.costs[test as usize]) * weight + (pass + fail)
 }
 
 /// The splitting test of least sum, the lowest of these.
 pub(crate) fn least_test(
-    scratch: &mut Scratch,
+    tools: &mut Tools,
     inst: &Instance,
     rows: &[Row],
     places: &Places,
     group: &Group,
 ) -> Chosen
+    requires tools { AreTools (problem_of inst.now) tools.old }
     requires known { IsKnown (problem_of inst.now) rows.now places.now.placed }
     requires within { IsWithin (problem_of inst.now) (members group.now) }
     requires more { is_end (problem_of inst.now) (members group.now) ≡ false }
+    ensures tools { AreTools (problem_of inst.now) tools.new }
     ensures test { result.test ≡ first_least (step_sum (problem_of inst.now) (known_low (problem_of inst.now) (rows_from rows.now)) (members group.now)) (splitting (problem_of inst.now) (members group.now)) }
     ensures sum { result.sum ≡ step_sum (problem_of inst.now) (known_low (problem_of inst.now) (rows_from rows.now)) (members group.now) result.test }
 {
@@ -77,7 +83,7 @@ pub(crate) fn least_test(
     let mut chosen = None;
     for test in 0..tests {
         if splits(inst, group, test) {
-            let sum = low_sum(scratch, inst, rows, places, group, test, weight);
+            let sum = low_sum(tools, inst, rows, places, group, test, weight);
             chosen = Some(choose(chosen, test, sum));
         }
     }
@@ -127,20 +133,22 @@ fn lesser_of(number: u64, value: Option<u64>) -> u64
 
 /// The least of greedy's cost and the sums of ups.
 pub(crate) fn least_up(
-    scratch: &mut Scratch,
+    tools: &mut Tools,
     inst: &Instance,
     rows: &[Row],
     places: &Places,
     group: &Group,
 ) -> u64
+    requires tools { AreTools (problem_of inst.now) tools.old }
     requires known { IsKnown (problem_of inst.now) rows.now places.now.placed }
     requires within { IsWithin (problem_of inst.now) (members group.now) }
+    ensures tools { AreTools (problem_of inst.now) tools.new }
     ensures value { result ≡ least_up_of (problem_of inst.now) (rows_from rows.now) (members group.now) }
     ensures fits { result ≤ greatest_cost }
 {
     let weight = weight_of(inst, group);
     let tests = inst.costs.len() as u32;
-    let mut least = greedy_cost(scratch, inst, group);
+    let mut least = greedy_of(tools, inst, group);
     for test in 0..tests {
         if splits(inst, group, test) {
             least = lesser_of(least, up_sum(inst, rows, places, group, test, weight));

@@ -7,11 +7,12 @@ ghost use Rattle.seq_huff.specs.Bounds.{greatest_cost};
 ghost use Rattle.seq_inst.specs.Members.{members};
 ghost use Rattle.seq_inst.specs.Instances.{problem_of};
 ghost use Rattle.seq_core.specs.RowsOf.{rows_of as rows_from};
+ghost use Rattle.seq_solo.specs.Tools.{AreTools};
 ghost use Rattle.seq_solo.specs.Known.{IsKnown, Narrows, group_at, IsClosedAt, raised_at, capped_at};
 
 use crate::choice::{least_test, least_up};
+use crate::tools::{Tools, bound_of};
 use seq_core::Places;
-use seq_huff::{Scratch, bound};
 use seq_inst::{Group, Instance, Row};
 use std::alloc::AllocError;
 
@@ -35,39 +36,43 @@ fn cap(rows: &mut [Row], place: usize, to: u64)
 
 /// Raises and caps a group by what is known of its parts.
 pub(crate) fn refresh(
-    scratch: &mut Scratch,
+    tools: &mut Tools,
     inst: &Instance,
     rows: &mut [Row],
     places: &Places,
     place: usize,
 )
+    requires tools { AreTools (problem_of inst.now) tools.old }
     requires known { IsKnown (problem_of inst.now) rows.old places.now.placed }
     requires place { place < length rows.old }
+    ensures tools { AreTools (problem_of inst.now) tools.new }
     ensures known { IsKnown (problem_of inst.now) rows.new places.now.placed }
     ensures narrows { Narrows rows.old rows.new }
     ensures closes { least_up_of (problem_of inst.now) (rows_from rows.old) (members (group_at rows.old place)) ≤ most_low (problem_of inst.now) (rows_from rows.old) (members (group_at rows.old place)) → IsClosedAt rows.new place }
 {
     let group = rows[place].group;
-    let chosen = least_test(scratch, inst, rows, places, &group);
-    let low = bound(scratch, inst, &group).max(chosen.sum);
-    let up = least_up(scratch, inst, rows, places, &group);
+    let chosen = least_test(tools, inst, rows, places, &group);
+    let low = bound_of(tools, inst, &group).max(chosen.sum);
+    let up = least_up(tools, inst, rows, places, &group);
     raise(rows, place, low);
     cap(rows, place, up);
 }
 
 /// Enters a group, and raises and caps it.
 pub(crate) fn enter(
-    scratch: &mut Scratch,
+    tools: &mut Tools,
     inst: &Instance,
     rows: &mut Vec<Row>,
     places: &mut Places,
     group: &Group,
 ) -> Result<(), AllocError>
+    requires tools { AreTools (problem_of inst.now) tools.old }
     requires known { IsKnown (problem_of inst.now) rows.old.items places.old.placed }
     requires real { IsReal (problem_of inst.now) (members group.now) }
     requires new { is_entered (groups_of (rows_from rows.old.items)) (members group.now) ≡ false }
     requires room { vec_len rows.old < places.old.room }
     requires small { places.old.room < 32769 }
+    ensures tools { AreTools (problem_of inst.now) tools.new }
     ensures known { IfOk result (λ _. IsKnown (problem_of inst.now) rows.new.items places.new.placed) }
     ensures narrows { IfOk result (λ _. Narrows (rows.old.items ++ record { group = group.now; low = 0; up = no_value } ∷ []) rows.new.items) }
     ensures room { places.new.room ≡ places.old.room }
@@ -79,6 +84,6 @@ pub(crate) fn enter(
         up: u64::MAX,
     })?;
     places.add(group, place as u32);
-    refresh(scratch, inst, rows.as_mut_slice(), places, place);
+    refresh(tools, inst, rows.as_mut_slice(), places, place);
     Ok(())
 }

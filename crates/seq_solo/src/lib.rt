@@ -11,9 +11,12 @@ mod alone;
 mod choice;
 mod events;
 mod found;
+mod greedy;
 mod known;
+mod memo;
 #[cfg(test)]
 mod tests;
+mod tools;
 mod turn;
 
 pub use alone::solve_alone;

@@ -8,12 +8,13 @@ ghost use Rattle.seq_inst.specs.Instances.{problem_of};
 ghost use Rattle.seq_solo.specs.Known.{IsKnown, group_at, row_at};
 ghost use Rattle.seq_solo.specs.Steps.{IsStep, step_by};
 ghost use Rattle.seq_solo.specs.Parts.{IsKnowledge};
+ghost use Rattle.seq_solo.specs.Tools.{AreTools};
 ghost use Rattle.seq_solo.specs.Walks.{HasTurned};
 
 use crate::choice::least_test;
 use crate::events::{enter, refresh};
+use crate::tools::Tools;
 use seq_core::Places;
-use seq_huff::Scratch;
 use seq_inst::{Answer, Group, Instance, Row, is_leaf, part};
 use std::alloc::AllocError;
 
@@ -82,18 +83,20 @@ fn step_of(pass: Group, pass_known: Knowledge, fail: Group, fail_known: Knowledg
 
 /// What the walk does at a group, by its test of least sum.
 fn next_step(
-    scratch: &mut Scratch,
+    tools: &mut Tools,
     inst: &Instance,
     rows: &[Row],
     places: &Places,
     place: usize,
 ) -> Step
+    requires tools { AreTools (problem_of inst.now) tools.old }
     requires known { IsKnown (problem_of inst.now) rows.now places.now.placed }
     requires place { place < length rows.now }
-    ensures { IsStep (problem_of inst.now) rows.now (members (group_at rows.now place)) result }
+    ensures tools { AreTools (problem_of inst.now) tools.new }
+    ensures step { IsStep (problem_of inst.now) rows.now (members (group_at rows.now place)) result }
 {
     let group = rows[place].group;
-    let chosen = least_test(scratch, inst, rows, places, &group);
+    let chosen = least_test(tools, inst, rows, places, &group);
     let pass_part = part(inst, &group, chosen.test, Answer::Pass);
     let fail_part = part(inst, &group, chosen.test, Answer::Fail);
     let pass_known = knowledge_of(inst, rows, places, &pass_part);
@@ -104,40 +107,42 @@ fn next_step(
 /// One turn from a group on. The answer is the group that could not be entered, if there is one; then
 /// nothing has changed.
 pub(crate) fn turn(
-    scratch: &mut Scratch,
+    tools: &mut Tools,
     inst: &Instance,
     limit: u32,
     rows: &mut Vec<Row>,
     places: &mut Places,
     place: usize,
 ) -> Result<Option<Group>, AllocError>
+    requires tools { AreTools (problem_of inst.now) tools.old }
     requires known { IsKnown (problem_of inst.now) rows.old.items places.old.placed }
     requires few { vec_len rows.old ≤ limit }
     requires place { place < vec_len rows.old }
     requires apart { (row_at rows.old.items place).low ≢ (row_at rows.old.items place).up }
     requires room { places.old.room ≡ limit }
     requires small { limit ≤ 32768 }
+    ensures tools { AreTools (problem_of inst.now) tools.new }
     ensures turned { IfOk result (HasTurned (problem_of inst.now) limit rows.old.items rows.new.items places.new.placed) }
     ensures room { places.new.room ≡ places.old.room }
 {
-    match next_step(scratch, inst, rows.as_slice(), places, place) {
+    match next_step(tools, inst, rows.as_slice(), places, place) {
         Step::Enter { group } => {
             if rows.len() >= limit as usize {
                 return Ok(Some(group));
             }
-            enter(scratch, inst, rows, places, &group)?;
-            refresh(scratch, inst, rows.as_mut_slice(), places, place);
+            enter(tools, inst, rows, places, &group)?;
+            refresh(tools, inst, rows.as_mut_slice(), places, place);
             Ok(None)
         }
         Step::Down { place: next } => {
-            if let Some(group) = turn(scratch, inst, limit, rows, places, next)? {
+            if let Some(group) = turn(tools, inst, limit, rows, places, next)? {
                 return Ok(Some(group));
             }
-            refresh(scratch, inst, rows.as_mut_slice(), places, place);
+            refresh(tools, inst, rows.as_mut_slice(), places, place);
             Ok(None)
         }
         Step::Close => {
-            refresh(scratch, inst, rows.as_mut_slice(), places, place);
+            refresh(tools, inst, rows.as_mut_slice(), places, place);
             Ok(None)
         }
     }

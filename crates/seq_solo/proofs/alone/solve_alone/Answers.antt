@@ -18,23 +18,23 @@ pub enter-requires-clause-real : goal.enter-requires-clause-real
 enter-requires-clause-real c = root-real (problem_of c.args.inst.now) c.root-all.result c.root-all.ensures (sym c.is_leaf.ensures ∙ c.if-is_leaf.false)
 
 pub returns-clause-root : goal.returns-clause-root
-returns-clause-root c = λ more. root-entered (problem_of c.args.inst.now) c.turns.rows.items (walking-begins (problem_of c.args.inst.now) c.args.limit c.turns.rows.items c.turns.places.placed c.turns.places.room more c.turns.invariant) more
+returns-clause-root c = λ more. root-entered (problem_of c.args.inst.now) c.turns.rows.items (walking-begins (problem_of c.args.inst.now) c.args.limit c.turns.rows.items c.turns.places.placed c.turns.places.room more c.turns.invariant.walk) more
 
 pub returns-clause-ended : goal.returns-clause-ended
 returns-clause-ended c =
-    let some = c.turns.invariant.some in
+    let some = c.turns.invariant.walk.some in
     let closed = closed-read c.turns.rows.items c.index.result.now c.index-in-turns.result.now some c.index.ensures c.index-in-turns.ensures c.turns-test.false in
-    solved c.args.inst.now c.args.limit c.turns.rows.items c.turns.places.placed c.turns.places.room c.turns.invariant closed
+    solved c.args.inst.now c.args.limit c.turns.rows.items c.turns.places.placed c.turns.places.room c.turns.invariant.walk closed
 
 pub returns-clause-stopped : goal.returns-clause-stopped
 returns-clause-stopped c =
-    let some = c.turns.invariant.some in
+    let some = c.turns.invariant.walk.some in
     let closed = closed-read c.turns.rows.items c.index.result.now c.index-in-turns.result.now some c.index.ensures c.index-in-turns.ensures c.turns-test.false in
-    may-stop (problem_of c.args.inst.now) c.args.limit c.turns.rows.items None (solved c.args.inst.now c.args.limit c.turns.rows.items c.turns.places.placed c.turns.places.room c.turns.invariant closed)
+    may-stop (problem_of c.args.inst.now) c.args.limit c.turns.rows.items None (solved c.args.inst.now c.args.limit c.turns.rows.items c.turns.places.placed c.turns.places.room c.turns.invariant.walk closed)
 
 pub returns-in-Some-clause-root : goal.returns-in-Some-clause-root
 returns-in-Some-clause-root c = λ more.
     let p = problem_of c.args.inst.now in
     let same = stopped-same p c.args.limit c.turns.rows.items c.turn.new.rows.items c.turn.new.places.placed c.in_ok-missed.field-0 c.in-Some.missed c.in_ok-missed.ensures.turned c.in-Some.is in
     subst (λ l. is_entered (groups_in l) (all_classes p) ≡ true) (sym same)
-    (root-entered p c.turns.rows.items (walking-begins p c.args.limit c.turns.rows.items c.turns.places.placed c.turns.places.room more c.turns.invariant) more)
+    (root-entered p c.turns.rows.items (walking-begins p c.args.limit c.turns.rows.items c.turns.places.placed c.turns.places.room more c.turns.invariant.walk) more)

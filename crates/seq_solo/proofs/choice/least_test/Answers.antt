@@ -2,11 +2,12 @@ use Rattle.std.proofs.Common.{◌≡◌, ◌∙◌, ◌+◌, sym, ap, arith, sub
 use Rattle.seq_theory.specs.Problem.{splits, splitting}
 use Rattle.seq_theory.specs.Bound.{step_sum}
 use Rattle.seq_theory.specs.Rows.{known_low}
+use Rattle.seq_core.specs.RowsOf.{rows_of as rows_from}
+use Rattle.seq_solo.proofs.ChoiceLaws.{ChosenSoFar, chosen-more, chosen-all, chosen-some}
 use Rattle.seq_inst.specs.Members.{members}
 use Rattle.seq_inst.specs.Instances.{problem_of}
 use Rattle.seq_huff.proofs.Written.{passing_below, passing-zero, passing-in, passing-out, passing-all}
-use Rattle.seq_core.specs.RowsOf.{rows_of as rows_from}
-use Rattle.seq_solo.proofs.ChoiceLaws.{ChosenSoFar, chosen-more, chosen-all, chosen-some}
+use Rattle.seq_solo.specs.Tools.{AreTools}
 use Rattle.seq_solo.proofs.choice.least_test.Goals as goal
 use Rattle.seq_solo.proofs.choice.least_test.Goals.{then-splits, else-splits}
 
@@ -14,7 +15,7 @@ pub loop-test-init : goal.loop-test-init
 loop-test-init c =
     let p = problem_of c.args.inst.now in
     let xs = members c.args.group.now in
-    subst (λ l. ChosenSoFar (step_sum p (known_low p (rows_from c.args.rows.now)) xs) l None) (sym (passing-zero (splits p xs))) refl
+    record { tools = c.requires.tools; chosen = subst (λ l. ChosenSoFar (step_sum p (known_low p (rows_from c.args.rows.now)) xs) l None) (sym (passing-zero (splits p xs))) refl }
 
 pub loop-test-preserved : goal.loop-test-preserved
 loop-test-preserved c =
@@ -22,14 +23,20 @@ loop-test-preserved c =
     let xs = members c.args.group.now in
     let f = step_sum p (known_low p (rows_from c.args.rows.now)) xs in
     let more = passing_below (splits p xs) (c.loop-test.test + 1) in
-    let i : ChosenSoFar f (passing_below (splits p xs) c.loop-test.test) c.loop-test.chosen = c.loop-test.invariant in
+    let i : ChosenSoFar f (passing_below (splits p xs) c.loop-test.test) c.loop-test.chosen = c.loop-test.invariant.chosen in
     elim c.if-splits.branch [
       | then-splits w ↦
-          (let next = chosen-more f (passing_below (splits p xs) c.loop-test.test) more c.loop-test.test w.low_sum-sum.result c.loop-test.chosen i (passing-in (splits p xs) c.loop-test.test (sym c.splits.ensures ∙ w.if-splits.true)) w.low_sum-sum.ensures in
-          subst (ChosenSoFar f more) (ap (λ n. Some n) (sym w.choose.ensures) ∙ sym w.chosen-is) next)
-      | else-splits w ↦
-          subst (ChosenSoFar f more) (sym w.chosen-is)
-          (subst (λ l. ChosenSoFar f l c.loop-test.chosen) (sym (passing-out (splits p xs) c.loop-test.test (sym c.splits.ensures ∙ w.if-splits.false))) i)
+          (let next = chosen-more f (passing_below (splits p xs) c.loop-test.test) more c.loop-test.test w.low_sum-sum.result c.loop-test.chosen i (passing-in (splits p xs) c.loop-test.test (sym c.splits.ensures ∙ w.if-splits.true)) w.low_sum-sum.ensures.value in
+          record {
+            tools = subst (AreTools p) (sym w.tools-is) w.low_sum-sum.ensures.tools;
+            chosen = subst (ChosenSoFar f more) (ap (λ n. Some n) (sym w.choose.ensures) ∙ sym w.chosen-is) next;
+          })
+      | else-splits w ↦ record {
+        tools = subst (AreTools p) (sym w.tools-is) c.loop-test.invariant.tools;
+        chosen =
+            subst (ChosenSoFar f more) (sym w.chosen-is)
+            (subst (λ l. ChosenSoFar f l c.loop-test.chosen) (sym (passing-out (splits p xs) c.loop-test.test (sym c.splits.ensures ∙ w.if-splits.false))) i);
+      }
     ]
 
 pub unreachable-requires : goal.unreachable-requires
@@ -39,16 +46,27 @@ unreachable-requires c =
     let f = step_sum p (known_low p (rows_from c.args.rows.now)) xs in
     let n = c.len-tests.ensures ∙ c.args.inst.now.costs.ok.0 in
     let e : c.loop-test.test ≡ p.tests = omega arith in
-    let i : ChosenSoFar f (splitting p xs) c.loop-test.chosen = subst (λ l. ChosenSoFar f l c.loop-test.chosen) (ap (passing_below (splits p xs)) e ∙ passing-all (splits p xs) p.tests) c.loop-test.invariant in
+    let i : ChosenSoFar f (splitting p xs) c.loop-test.chosen = subst (λ l. ChosenSoFar f l c.loop-test.chosen) (ap (passing_below (splits p xs)) e ∙ passing-all (splits p xs) p.tests) c.loop-test.invariant.chosen in
     chosen-some p f xs c.args.inst.now.valid.told c.requires.within c.requires.more (subst (ChosenSoFar f (splitting p xs)) c.in-None.is i)
 
-pub returns : goal.returns
-returns c =
+pub returns-clause-test : goal.returns-clause-test
+returns-clause-test c =
     let p = problem_of c.args.inst.now in
     let xs = members c.args.group.now in
     let f = step_sum p (known_low p (rows_from c.args.rows.now)) xs in
     let n = c.len-tests.ensures ∙ c.args.inst.now.costs.ok.0 in
     let e : c.loop-test.test ≡ p.tests = omega arith in
-    let i : ChosenSoFar f (splitting p xs) c.loop-test.chosen = subst (λ l. ChosenSoFar f l c.loop-test.chosen) (ap (passing_below (splits p xs)) e ∙ passing-all (splits p xs) p.tests) c.loop-test.invariant in
+    let i : ChosenSoFar f (splitting p xs) c.loop-test.chosen = subst (λ l. ChosenSoFar f l c.loop-test.chosen) (ap (passing_below (splits p xs)) e ∙ passing-all (splits p xs) p.tests) c.loop-test.invariant.chosen in
     let all = chosen-all f (splitting p xs) c.in-Some.chosen (subst (ChosenSoFar f (splitting p xs)) c.in-Some.is i) in
-    record { test = all.test; sum = all.sum }
+    all.test
+
+pub returns-clause-sum : goal.returns-clause-sum
+returns-clause-sum c =
+    let p = problem_of c.args.inst.now in
+    let xs = members c.args.group.now in
+    let f = step_sum p (known_low p (rows_from c.args.rows.now)) xs in
+    let n = c.len-tests.ensures ∙ c.args.inst.now.costs.ok.0 in
+    let e : c.loop-test.test ≡ p.tests = omega arith in
+    let i : ChosenSoFar f (splitting p xs) c.loop-test.chosen = subst (λ l. ChosenSoFar f l c.loop-test.chosen) (ap (passing_below (splits p xs)) e ∙ passing-all (splits p xs) p.tests) c.loop-test.invariant.chosen in
+    let all = chosen-all f (splitting p xs) c.in-Some.chosen (subst (ChosenSoFar f (splitting p xs)) c.in-Some.is i) in
+    all.sum

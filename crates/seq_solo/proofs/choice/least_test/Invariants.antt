@@ -5,8 +5,12 @@ use Rattle.seq_inst.specs.Members.{members}
 use Rattle.seq_inst.specs.Instances.{problem_of}
 use Rattle.seq_huff.proofs.Written.{passing_below}
 use Rattle.seq_core.specs.RowsOf.{rows_of as rows_from}
+use Rattle.seq_solo.specs.Tools.{AreTools}
 use Rattle.seq_solo.proofs.ChoiceLaws.{ChosenSoFar}
 use Rattle.seq_solo.proofs.choice.least_test.Given as goal
 
 abbrev pub invariant-loop-test : goal.invariant-loop-test
-invariant-loop-test l = ChosenSoFar (step_sum (problem_of l.inst) (known_low (problem_of l.inst) (rows_from l.rows)) (members l.group)) (passing_below (splits (problem_of l.inst) (members l.group)) l.test) l.chosen
+invariant-loop-test l = record {
+  tools : AreTools (problem_of l.inst) l.tools;
+  chosen : ChosenSoFar (step_sum (problem_of l.inst) (known_low (problem_of l.inst) (rows_from l.rows)) (members l.group)) (passing_below (splits (problem_of l.inst) (members l.group)) l.test) l.chosen;
+}

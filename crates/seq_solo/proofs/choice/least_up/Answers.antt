@@ -20,7 +20,7 @@ loop-test-init c =
     let p = problem_of c.args.inst.now in
     let xs = members c.args.group.now in
     let f = step_value p (known_up p (rows_from c.args.rows.now)) xs in
-    c.greedy_cost-least.ensures.value ∙ sym (ap (λ l. least_of (greedy_cost p xs ∷ filter_map f l)) (passing-zero (splits p xs)))
+    c.greedy_of-least.ensures.value ∙ sym (ap (λ l. least_of (greedy_cost p xs ∷ filter_map f l)) (passing-zero (splits p xs)))
 
 pub loop-test-preserved : goal.loop-test-preserved
 loop-test-preserved c =

@@ -42,8 +42,8 @@ part-fail_part-requires c =
     let n = c.args.inst.now.costs.ok.0 in
     omega arith
 
-pub returns : goal.returns
-returns c =
+pub returns-clause-step : goal.returns-clause-step
+returns-clause-step c =
     let p = problem_of c.args.inst.now in
     let rows = c.args.rows.now in
     let g = members (group_at rows c.args.place) in
