@@ -1,14 +1,13 @@
 -- Groups that are told by their words: what a map by words has at a group is what the first claim of the group's classes
 -- says.
-use Rattle.std.proofs.Common.{◌≡◌, ◌≢◌, ℕ, ◌<◌, ◌≤◌, List, [], ◌∷◌, ◌++◌, length, map, refl, sym, ap, subst, ◌∙◌, arith, inl, inr, Option, Some, None}
-use Rattle.std.specs.Prelude.{Bool, true, false, cond, is_some, is_none}
-use Rattle.std.specs.List.{list_any}
+use Rattle.std.proofs.Common.{◌≡◌, ℕ, List, [], ◌∷◌, ◌++◌, refl, sym, ap, ◌∙◌, inl, inr, Option, Some, None}
+use Rattle.std.specs.Prelude.{Bool, true, false, cond, is_some}
 use Rattle.std.specs.Str.{bytes_eq}
-use Rattle.std.proofs.lemmas.Bool.{cases_Bool, false≢true, true≢false}
+use Rattle.std.proofs.lemmas.Bool.{cases_Bool, true≢false}
 use Rattle.std.proofs.lemmas.List.{map-append}
 use Rattle.std.proofs.lemmas.Slice.Eq.{bytes_eq-Decides}
 use Rattle.std.specs.Map.{lookup}
-use Rattle.indexmap.specs.IndexMap.{IndexMap, get, IsEmpty, Updates}
+use Rattle.indexmap.specs.IndexMap.{IndexMap, get}
 use Rattle.seq_theory.specs.Graph.{same_group}
 use Rattle.seq_theory.specs.Claims.{Claim, claim_of}
 use Rattle.seq_theory.proofs.RowLaws.{same_group-true, same_group-refl}

@@ -13,7 +13,7 @@ use Rattle.seq_theory.proofs.ClaimLaws.{claimed-le-least}
 use Rattle.seq_inst.specs.Members.{members}
 use Rattle.seq_cert.specs.declared.report.GroupLine.{GroupLine}
 use Rattle.seq_check.specs.Looks.{AreGood}
-use Rattle.seq_check.specs.GroupLooks.{claim_at, claims_of, most_claimed, is_root, root_looks, group_look, group_looks}
+use Rattle.seq_check.specs.GroupLooks.{claim_at, claims_of, most_claimed, is_root, group_look, group_looks}
 use Rattle.seq_check.proofs.LookLaws.{good-append}
 
 at_most : (a b : ℕ) → nat_le a b ≡ true → a ≤ b

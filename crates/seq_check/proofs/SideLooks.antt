@@ -1,9 +1,8 @@
 -- Lines beside items, step by step: after so many lines that are those of their items, what is left is the lines and the
 -- items from there on.
-use Rattle.std.proofs.Common.{◌≡◌, ℕ, zero, suc, ◌+◌, ◌<◌, ◌≤◌, List, [], ◌∷◌, drop, get_or, length, map, refl, sym, ap, subst, ◌∙◌, arith, Option, Some, None}
-use Rattle.std.specs.Prelude.{Bool, true, false, cond}
+use Rattle.std.proofs.Common.{◌≡◌, ℕ, zero, suc, ◌+◌, ◌<◌, ◌≤◌, List, [], ◌∷◌, drop, get_or, length, refl, sym, ap, ◌∙◌, arith, Some, None}
+use Rattle.std.specs.Prelude.{Bool, true, false}
 use Rattle.std.proofs.Math.Seq.{drop-cons}
-use Rattle.seq_cert.specs.declared.fault.BadLine.{BadLine}
 use Rattle.seq_cert.specs.declared.fault.BadCode.TheVariants.{C02}
 use Rattle.seq_check.specs.Looks.{first_bad}
 use Rattle.seq_check.specs.ModelLooks.{has_line, rest, side_looks}

@@ -1,17 +1,15 @@
 -- A walk over tree lines, step by step. What is left after so many good lines is to settle the groups on the stack by the
 -- lines from there on; and the costs so far, with what the trees that the rest draws cost over the groups on the stack,
 -- are what the whole tree costs.
-use Rattle.std.proofs.Common.{◌≡◌, ℕ, zero, suc, ◌+◌, ◌*◌, ◌<◌, ◌≤◌, List, [], ◌∷◌, ◌++◌, drop, get_or, length, refl, sym, ap, subst, ◌∙◌, arith, Option, Some, None}
-use Rattle.std.specs.Prelude.{Bool, true, false, nat_eq}
-use Rattle.std.specs.List.{All}
+use Rattle.std.proofs.Common.{◌≡◌, ℕ, ◌+◌, ◌*◌, ◌<◌, ◌≤◌, List, [], ◌∷◌, ◌++◌, drop, get_or, length, refl, sym, ap, subst, ◌∙◌, arith, Some, None}
+use Rattle.std.specs.Prelude.{true, false}
 use Rattle.std.proofs.lemmas.List.Elements.{All-nil, All-cons, All-pop}
 use Rattle.seq_theory.specs.Problem.{Problem, IsWithin, all_classes, weight_of, pass_part, fail_part}
-use Rattle.seq_theory.specs.Tree.{Tree, leaf, ask, tree_cost}
+use Rattle.seq_theory.specs.Tree.{Tree, tree_cost}
 use Rattle.seq_theory.proofs.CostLaws.{tree_cost-leaf, tree_cost-ask}
 use Rattle.seq_inst.proofs.RootLaws.{within-all}
 use Rattle.seq_inst.specs.Members.{members}
 use Rattle.seq_inst.specs.declared.group.Group.{Group}
-use Rattle.seq_cert.specs.declared.fault.BadLine.{BadLine}
 use Rattle.seq_cert.specs.declared.fault.BadCode.TheVariants.{C03}
 use Rattle.seq_cert.specs.declared.report.TreeLine.{TreeLine}
 use Rattle.seq_cert.specs.declared.report.TreeLine.TheVariants.{Ask, Leaf}
@@ -22,7 +20,6 @@ use Rattle.seq_check.specs.declared.tree.Walked.{Walked}
 use Rattle.seq_cert.specs.declared.report.Report.{Report}
 use Rattle.seq_check.specs.Lines.{tree_at, looks_at_tree}
 use Rattle.seq_check.specs.Walked.{IsWalked, onto, waiting, line_cost, AreWithin}
-use Rattle.seq_check.proofs.LookLaws.{good-first_bad}
 use Rattle.seq_check.proofs.DrawnTrees.{AreDrawn, drawn}
 use Rattle.seq_check.proofs.SideLooks.{drop-past, drop-step}
 

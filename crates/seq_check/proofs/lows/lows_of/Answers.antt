@@ -1,4 +1,4 @@
-use Rattle.std.proofs.Common.{List, take, subst, sym, ◌∙◌, ap}
+use Rattle.std.proofs.Common.{List, take, subst, sym}
 use Rattle.std.proofs.lemmas.List.{take_all, take_more}
 use Rattle.seq_cert.specs.declared.report.GroupLine.{GroupLine}
 use Rattle.seq_check.specs.Listed.{AreLows}

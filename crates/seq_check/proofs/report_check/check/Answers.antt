@@ -1,4 +1,4 @@
-use Rattle.std.proofs.Common.{◌≡◌, sym, ◌∙◌, arith}
+use Rattle.std.proofs.Common.{sym, ◌∙◌, arith}
 use Rattle.seq_inst.specs.Instances.{problem_of}
 use Rattle.seq_check.proofs.LineCounts.{missed-within}
 use Rattle.seq_check.proofs.Certified.{certified_shows}

@@ -1,7 +1,6 @@
-use Rattle.std.proofs.Common.{◌≡◌, ℕ, List, ap, sym, subst, ◌∙◌, arith}
+use Rattle.std.proofs.Common.{sym, ◌∙◌}
 use Rattle.seq_inst.specs.Instances.{problem_of}
-use Rattle.seq_check.specs.Looks.{first_bad}
-use Rattle.seq_check.specs.Lines.{looks, head_looks, looks_from_classes, looks_at_tree}
+use Rattle.seq_check.specs.Lines.{looks, head_looks, looks_from_classes}
 use Rattle.seq_check.proofs.LookLaws.{stops, passes}
 use Rattle.seq_check.proofs.TreeWalk.{walked_report}
 use Rattle.seq_check.proofs.report_check.first_bad_line.Goals as goal
