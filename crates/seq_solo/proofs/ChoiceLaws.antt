@@ -1,19 +1,23 @@
 -- The loops over the tests: the first test of least sum so far, and the least value so far.
-use Rattle.std.proofs.Common.{◌≡◌, ℕ, ◌+◌, ◌*◌, ◌<◌, ◌≤◌, max, min, List, [], ◌∷◌, ◌++◌, length, refl, sym, ap, ◌∙◌, arith, inl, inr, subst, Option, Some, None}
-use Rattle.std.specs.Prelude.{Bool, true, false, cond, nat_le, map, filter}
+use Rattle.std.proofs.Common.{◌≡◌, ℕ, ◌*◌, ◌<◌, ◌≤◌, max, min, List, [], ◌∷◌, ◌++◌, refl, sym, ap, ◌∙◌, arith, inl, inr, subst, Option, Some, None}
+use Rattle.std.specs.Prelude.{Bool, true, false, cond, nat_le, map}
 use Rattle.std.specs.List.{filter_map, cons_option}
 use Rattle.seq_theory.specs.Problem.{Problem, IsIn, IsWithin, AreTold, splits, splitting, weight_of, is_end, least_of}
 use Rattle.seq_theory.specs.Bound.{bound, step_sum}
 use Rattle.seq_theory.specs.Greedy.{first_least, greedy_test}
 use Rattle.seq_theory.proofs.LeastOfLaws.{first_least-last, first_least-is}
-use Rattle.seq_theory.proofs.LeastLaws.{least_of-le, step_reaches, IsIn-count_up}
+use Rattle.seq_theory.proofs.LeastLaws.{step_reaches, IsIn-count_up}
 use Rattle.seq_theory.proofs.GroupLaws.{IsIn-filter}
 use Rattle.seq_inst.specs.declared.group.Group.{Group}
 use Rattle.seq_inst.specs.declared.instance.Instance.{Instance}
 use Rattle.seq_inst.specs.Members.{members}
 use Rattle.seq_inst.specs.Instances.{problem_of}
+<<<<<<< HEAD
 use Rattle.seq_inst.proofs.WithinLaws.{light}
 use Rattle.seq_huff.specs.Bounds.{greatest_cost}
+=======
+use Rattle.seq_inst.proofs.WithinLaws.{light}
+>>>>>>> c0671e42bb576b3f4e757675ab048f82449820ba
 use Rattle.seq_huff.proofs.BoundFits.{product-le}
 use Rattle.seq_solo.specs.declared.choice.Chosen.{Chosen}
 use Rattle.seq_solo.specs.Choice.{lesser_choice, lesser_value}

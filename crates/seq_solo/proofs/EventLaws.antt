@@ -1,19 +1,16 @@
 -- The code's events are the theory's, and so keep the rows sound: raising and capping a row changes one row of the list, and
 -- entering adds one.
-use Rattle.std.proofs.Common.{◌≡◌, ℕ, zero, suc, ◌+◌, ◌*◌, ◌<◌, ◌≤◌, max, min, List, [], ◌∷◌, ◌++◌, length, get_or, set, refl, sym, ap, ◌∙◌, arith, inl, inr, subst, Option, Some, None, map, length-append}
-use Rattle.std.specs.Prelude.{Bool, true, false, cond, nat_eq, All, slice_get}
-use Rattle.std.specs.List.{filter_map}
+use Rattle.std.proofs.Common.{◌≡◌, ℕ, zero, suc, ◌+◌, ◌*◌, ◌<◌, ◌≤◌, max, min, List, [], ◌∷◌, ◌++◌, length, set, refl, sym, ap, ◌∙◌, arith, inl, inr, subst, Some, None, length-append}
+use Rattle.std.specs.Prelude.{false, cond, slice_get}
 use Rattle.std.proofs.lemmas.Bool.{cases_Bool, or_parts}
 use Rattle.std.proofs.lemmas.List.{get_or-set_same, map-append}
 use Rattle.std.proofs.lemmas.List.Elements.{All-set, All-push}
-use Rattle.std.proofs.lemmas.Option.{slice_get-get_or}
 use Rattle.std.proofs.Math.ListN.{length-set}
-use Rattle.seq_theory.specs.Problem.{Problem, IsWithin, IsWeighed, AreTold, is_end, splitting, least_of, pass_part, fail_part, weight_of}
+use Rattle.seq_theory.specs.Problem.{Problem, is_end, splitting, least_of, pass_part, fail_part, weight_of}
 use Rattle.seq_theory.specs.Bound.{bound, step_sum}
 use Rattle.seq_theory.specs.Greedy.{greedy_cost, first_least}
 use Rattle.seq_theory.specs.Graph.{same_group, is_entered, step_value, sum_with, IsReal}
-use Rattle.seq_theory.specs.Rows.{Row as PlainRow, no_value, groups_of, IsSound, row_of, known_low, up_or, known_up, most_low, least_up, enter, raise, cap, change_at, after}
-use Rattle.seq_theory.proofs.LeastLaws.{least}
+use Rattle.seq_theory.specs.Rows.{Row as PlainRow, no_value, groups_of, IsSound, row_of, known_low, up_or, known_up, most_low, least_up, enter, raise, cap, after}
 use Rattle.seq_theory.proofs.RowLaws.{events-sound}
 use Rattle.seq_theory.proofs.PartsRecursion.{filter_map-agree}
 use Rattle.seq_huff.specs.Bounds.{greatest_cost}

@@ -1,12 +1,11 @@
 -- What a search ends with. Where low and up of the group of all classes meet, the low over the entered groups and their value
 -- meet between them, for both lie on the far sides of the least cost.
-use Rattle.std.proofs.Common.{◌≡◌, ◌≢◌, ℕ, zero, suc, ◌<◌, ◌≤◌, List, [], ◌∷◌, ◌++◌, length, get_or, refl, sym, ap, ◌∙◌, arith, inl, inr, subst, Option, Some, None}
-use Rattle.std.specs.Prelude.{Bool, true, false}
+use Rattle.std.proofs.Common.{◌≡◌, ◌≢◌, ℕ, suc, ◌<◌, ◌≤◌, List, [], ◌∷◌, ◌++◌, length, get_or, refl, sym, ap, ◌∙◌, arith, inl, inr, subst, Option, Some, None}
+use Rattle.std.specs.Prelude.{true, false}
 use Rattle.std.proofs.lemmas.List.{get_or_read}
 use Rattle.seq_theory.specs.Problem.{Problem, all_classes, is_end}
 use Rattle.seq_theory.specs.Graph.{is_entered, low, val, IsWanted, root, IsReal}
 use Rattle.seq_theory.specs.Rows.{no_value, groups_of, IsSound}
-use Rattle.seq_theory.proofs.LeastLaws.{least}
 use Rattle.seq_theory.proofs.LowLaws.{low-end, low-le-least}
 use Rattle.seq_theory.proofs.ValLaws.{val-end, val-entered, least-le-val}
 use Rattle.seq_theory.proofs.RowLaws.{none-sound}
@@ -19,10 +18,9 @@ use Rattle.seq_inst.specs.Instances.{problem_of}
 use Rattle.seq_core.specs.RowsOf.{row_of as row_from, rows_of as rows_from}
 use Rattle.seq_core.specs.Mapping.{Placed}
 use Rattle.seq_core.specs.Settled.{groups_in}
-use Rattle.seq_finish.specs.Entered.{IsMissed, MayStop}
-use Rattle.seq_finish.proofs.OutcomeLaws.{row-among, row-entered, within-all}
+use Rattle.seq_finish.specs.Entered.{MayStop}
+use Rattle.seq_finish.proofs.OutcomeLaws.{row-among, row-entered}
 use Rattle.seq_solo.specs.Known.{IsKnown, no_row, row_at, group_at, Narrows, IsClosedAt}
-use Rattle.seq_solo.specs.Steps.{IsNew}
 use Rattle.seq_solo.specs.Walks.{HasMoved, IsStopped, HasTurned}
 use Rattle.seq_solo.specs.Found.{BeginsWithAll, IsSolved, IsFull, HasEnded}
 use Rattle.seq_solo.proofs.KnownLaws.{row-real, row-within}

@@ -1,14 +1,13 @@
 -- What sound rows say of a part: what it counts for a low is at most its least cost, and what it counts for an up is small.
-use Rattle.std.proofs.Common.{◌≡◌, ℕ, zero, suc, ◌+◌, ◌<◌, ◌≤◌, ◌⊎◌, max, List, [], ◌∷◌, length, get_or, refl, sym, ap, ◌∙◌, arith, inl, inr, subst, Option, Some, None}
-use Rattle.std.specs.Prelude.{Bool, true, false, cond, nat_eq, All}
-use Rattle.std.proofs.lemmas.Bool.{cases_Bool, true≢false, eqb-true, ne_eqb}
-use Rattle.seq_theory.specs.Problem.{Problem, IsWithin, IsWeighed, IsSized, AreTold, is_end, weight_of, all_classes}
+use Rattle.std.proofs.Common.{◌≡◌, ℕ, ◌<◌, ◌≤◌, ◌⊎◌, max, List, [], ◌∷◌, length, refl, sym, ap, ◌∙◌, arith, inl, inr, subst, Option, Some, None}
+use Rattle.std.specs.Prelude.{Bool, true, false, cond}
+use Rattle.std.proofs.lemmas.Bool.{cases_Bool, ne_eqb}
+use Rattle.seq_theory.specs.Problem.{Problem, IsWithin, IsWeighed, IsSized, AreTold, is_end}
 use Rattle.seq_theory.specs.Bound.{bound}
-use Rattle.seq_theory.specs.Greedy.{greedy_cost}
-use Rattle.seq_theory.specs.Graph.{same_group, is_entered, low, val, IsReal}
-use Rattle.seq_theory.specs.Rows.{Row as PlainRow, no_value, groups_of, IsRow, IsSound, row_of, low_or, known_low, up_or, known_up}
+use Rattle.seq_theory.specs.Graph.{same_group, low, IsReal}
+use Rattle.seq_theory.specs.Rows.{Row as PlainRow, no_value, groups_of, IsRow, row_of, known_low, known_up}
 use Rattle.seq_theory.proofs.LeastLaws.{least}
-use Rattle.seq_theory.proofs.GreedyLaws.{least-le-greedy, bound-end, bound-le-least}
+use Rattle.seq_theory.proofs.GreedyLaws.{least-le-greedy, bound-end}
 use Rattle.seq_theory.proofs.LowLaws.{bound-le-low, low-le-least}
 use Rattle.seq_theory.proofs.RowLaws.{same_group-true, wanted-within, sound-bounds}
 use Rattle.seq_huff.specs.Bounds.{greatest_cost}
@@ -21,10 +20,9 @@ use Rattle.seq_inst.specs.Members.{members}
 use Rattle.seq_inst.specs.Instances.{problem_of}
 use Rattle.seq_core.specs.RowsOf.{row_of as row_from, rows_of as rows_from}
 use Rattle.seq_core.specs.Mapping.{Placed, place_of}
-use Rattle.seq_core.specs.Tables.{numbered}
 use Rattle.seq_finish.proofs.OutcomeLaws.{row-among}
-use Rattle.seq_finish.proofs.PlaceLaws.{IsPlace, place-found, place-none}
-use Rattle.seq_solo.specs.Known.{IsKnown, HasSmallUp, no_row, row_at, group_at}
+use Rattle.seq_finish.proofs.PlaceLaws.{place-found, place-none}
+use Rattle.seq_solo.specs.Known.{IsKnown, no_row, row_at, group_at}
 
 pub sized : (inst : Instance) → IsSized (problem_of inst)
 sized inst = record {

@@ -1,6 +1,6 @@
 -- What is kept for a group is the number that was kept for it: a new group comes at the end of the map, and its number at the
 -- end of the numbers, so no place of another group changes.
-use Rattle.std.proofs.Common.{◌≡◌, ℕ, ◌+◌, ◌<◌, List, [], ◌∷◌, ◌++◌, length, get_or, refl, sym, ap, ◌∙◌, arith, inl, inr, subst, ◌⊎◌, Option, Some, None, length-append}
+use Rattle.std.proofs.Common.{◌≡◌, ℕ, ◌<◌, List, [], ◌∷◌, ◌++◌, length, get_or, refl, sym, ap, ◌∙◌, arith, inl, inr, subst, ◌⊎◌, Option, Some, None, length-append}
 use Rattle.std.proofs.Math.ListN.{get_or-append}
 use Rattle.std.specs.Prelude.{Bool, true, false, cond, Result, Ok, Err, if◌then◌else◌, is_ok, is_err}
 use Rattle.std.proofs.Common.{Vec, Global}

@@ -1,9 +1,8 @@
 -- What is left to do falls. A row that is closed stays closed while rows narrow, since a low never passes an up; so the open
 -- rows grow by entering alone, by one, and fall where a row closes.
-use Rattle.std.proofs.Common.{◌≡◌, ◌≢◌, ℕ, zero, suc, ◌+◌, ◌-◌, ◌*◌, ◌<◌, ◌≤◌, List, [], ◌∷◌, ◌++◌, length, refl, sym, ap, ◌∙◌, arith, inl, inr, length-append}
-use Rattle.std.specs.Prelude.{Bool, true, false, cond, nat_eq}
+use Rattle.std.proofs.Common.{◌≢◌, ℕ, zero, suc, ◌+◌, ◌-◌, ◌*◌, ◌<◌, ◌≤◌, List, [], ◌∷◌, ◌++◌, length, ap, arith, inl, inr, length-append}
+use Rattle.std.specs.Prelude.{cond, nat_eq}
 use Rattle.std.proofs.lemmas.Bool.{cases_Bool, eqb-true, eq-eqb, ne_eqb}
-use Rattle.seq_theory.specs.Problem.{Problem}
 use Rattle.seq_inst.specs.declared.instance.Instance.{Instance}
 use Rattle.seq_inst.specs.declared.outcome.Row.{Row}
 use Rattle.seq_inst.specs.Instances.{problem_of}

@@ -1,21 +1,19 @@
 -- What a walk does at a group is allowed: a part that it enters is real, by the law of walks; a part in which it goes on is
 -- smaller; and where both parts are closed, what they count may be both raised to and capped to.
-use Rattle.std.proofs.Common.{◌≡◌, ◌≢◌, ℕ, zero, suc, ◌+◌, ◌<◌, ◌≤◌, max, Vec, List, [], ◌∷◌, ◌++◌, length, get_or, refl, sym, ap, ◌∙◌, arith, subst, Option, Some, None, length-append}
-use Rattle.std.specs.Prelude.{Bool, true, false, cond, nat_eq}
+use Rattle.std.proofs.Common.{◌≡◌, ◌≢◌, ℕ, zero, suc, ◌<◌, ◌≤◌, max, Vec, List, [], ◌∷◌, ◌++◌, length, refl, sym, ap, ◌∙◌, arith, subst, Option, Some, None, length-append}
+use Rattle.std.specs.Prelude.{Bool, true, false}
 use Rattle.std.specs.Vec.{with_items}
 use Rattle.std.proofs.lemmas.Bool.{ne_eqb}
 use Rattle.std.proofs.lemmas.List.{with_items_is}
-use Rattle.seq_theory.specs.Problem.{Problem, IsIn, IsWithin, is_end, splitting, pass_part, fail_part}
+use Rattle.seq_theory.specs.Problem.{Problem, is_end, splitting, pass_part, fail_part}
 use Rattle.seq_theory.specs.Bound.{bound, step_sum}
-use Rattle.seq_theory.specs.Graph.{part, IsWanted, IsReal}
-use Rattle.seq_theory.specs.Rows.{no_value, groups_of, row_of, known_low, known_up, most_low, least_up}
-use Rattle.seq_theory.proofs.LeastLaws.{least}
+use Rattle.seq_theory.specs.Graph.{part, IsWanted}
+use Rattle.seq_theory.specs.Rows.{no_value, groups_of, known_low, known_up, most_low, least_up}
 use Rattle.seq_theory.proofs.GreedyLaws.{bound-le-least}
 use Rattle.seq_theory.proofs.GroupLaws.{pass_part_smaller, fail_part_smaller}
 use Rattle.seq_theory.proofs.PartsRecursion.{splitting-splits, splitting-there}
 use Rattle.seq_theory.proofs.LowLaws.{low-le-least}
 use Rattle.seq_theory.proofs.WantedLaws.{walk-wanted, closing}
-use Rattle.seq_huff.specs.Bounds.{greatest_cost}
 use Rattle.seq_huff.proofs.LeastBounds.{weighed}
 use Rattle.seq_inst.specs.declared.group.Group.{Group}
 use Rattle.seq_inst.specs.declared.instance.Instance.{Instance}

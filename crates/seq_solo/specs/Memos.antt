@@ -1,5 +1,5 @@
 -- Numbers that are kept for groups.
-use Rattle.std.specs.Prelude.{◌≡◌, ◌⊎◌, ℕ, ◌+◌, ◌<◌, List, [], ◌∷◌, ◌++◌, length, slice_index, Option, Some, None}
+use Rattle.std.specs.Prelude.{◌≡◌, ◌⊎◌, ℕ, ◌<◌, List, length, slice_index, Option, Some}
 use Rattle.std.specs.Option.{option_map}
 use Rattle.seq_core.specs.Mapping.{place_of}
 use Rattle.seq_solo.specs.declared.memo.Memo.{Memo}

@@ -1,9 +1,8 @@
-use Rattle.std.proofs.Common.{◌≡◌, ◌≤◌, ◌∙◌, sym, ap, subst, arith, None}
-use Rattle.std.specs.Prelude.{true, false}
+use Rattle.std.proofs.Common.{◌≡◌, ◌∙◌, sym, ap, subst, None}
+use Rattle.std.specs.Prelude.{true}
 use Rattle.seq_theory.specs.Graph.{is_entered}
 use Rattle.seq_core.specs.Settled.{groups_in}
 use Rattle.seq_theory.specs.Problem.{all_classes, is_end}
-use Rattle.seq_inst.specs.Members.{members}
 use Rattle.seq_inst.specs.Instances.{problem_of}
 use Rattle.seq_solo.proofs.FoundLaws.{root-real, nothing-solved, walking-begins, root-entered, solved, may-stop, closed-read, stopped-same}
 use Rattle.seq_solo.proofs.alone.solve_alone.Goals as goal

@@ -1,13 +1,12 @@
-use Rattle.std.proofs.Common.{◌≡◌, ◌≤◌, ◌∙◌, ◌+◌, ◌∷◌, sym, ap, arith, subst, refl}
+use Rattle.std.proofs.Common.{◌≡◌, ◌∙◌, ◌+◌, ◌∷◌, sym, ap, arith}
 use Rattle.std.specs.List.{filter_map}
-use Rattle.seq_theory.specs.Problem.{splits, splitting, least_of}
+use Rattle.seq_theory.specs.Problem.{splits, least_of}
 use Rattle.seq_theory.specs.Greedy.{greedy_cost}
 use Rattle.seq_theory.specs.Graph.{step_value}
 use Rattle.seq_theory.specs.Rows.{known_up}
 use Rattle.seq_theory.proofs.ValLaws.{least_of-first}
 use Rattle.seq_inst.specs.Members.{members}
 use Rattle.seq_inst.specs.Instances.{problem_of}
-use Rattle.seq_huff.specs.Bounds.{greatest_cost}
 use Rattle.seq_huff.proofs.GreedyCode.{greedy-small}
 use Rattle.seq_huff.proofs.Written.{passing_below, passing-zero, passing-in, passing-out, passing-all}
 use Rattle.seq_core.specs.RowsOf.{rows_of as rows_from}

@@ -1,4 +1,4 @@
-use Rattle.std.proofs.Common.{◌≡◌, ◌<◌, ◌∙◌, [], ◌∷◌, ◌++◌, sym, ap, subst, arith, length}
+use Rattle.std.proofs.Common.{◌≡◌, ◌∙◌, [], ◌∷◌, ◌++◌, sym, ap, subst, arith, length}
 use Rattle.seq_theory.specs.Rows.{no_value}
 use Rattle.seq_core.specs.Mapping.{Mapping}
 use Rattle.seq_solo.specs.Known.{IsKnown}

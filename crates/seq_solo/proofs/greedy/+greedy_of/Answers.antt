@@ -1,4 +1,4 @@
-use Rattle.std.proofs.Common.{◌≡◌, ◌∙◌, ◌+◌, ◌*◌, ◌≤◌, sym, ap, subst, arith, refl}
+use Rattle.std.proofs.Common.{◌≡◌, ◌∙◌, ◌+◌, ◌*◌, sym, ap, arith, refl}
 use Rattle.std.proofs.lemmas.List.{get_or_read}
 use Rattle.seq_theory.specs.Problem.{fail_part}
 use Rattle.seq_inst.specs.Members.{members}
@@ -6,7 +6,6 @@ use Rattle.seq_inst.specs.Instances.{problem_of}
 use Rattle.seq_inst.proofs.WithinLaws.{light}
 use Rattle.seq_huff.proofs.BoundFits.{product-le}
 use Rattle.seq_huff.proofs.GreedyCode.{cost-end, greedy_there, greedy_parts, greedy-small}
-use Rattle.seq_huff.specs.Bounds.{greatest_cost}
 use Rattle.seq_theory.specs.Greedy.{greedy_cost}
 use Rattle.seq_solo.proofs.MemoLaws.{tools-keep-cost}
 use Rattle.seq_solo.proofs.greedy.+greedy_of.Goals as goal

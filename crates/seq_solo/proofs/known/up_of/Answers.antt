@@ -1,7 +1,7 @@
-use Rattle.std.proofs.Common.{◌≡◌, ◌∙◌, sym}
+use Rattle.std.proofs.Common.{◌∙◌, sym}
 use Rattle.seq_inst.specs.Members.{members}
 use Rattle.seq_inst.specs.Instances.{problem_of}
-use Rattle.seq_solo.proofs.KnownLaws.{found, found-none, up-missing, up-found, up-none, up-small}
+use Rattle.seq_solo.proofs.KnownLaws.{found, found-none, up-missing, up-found, up-none}
 use Rattle.seq_solo.proofs.known.up_of.Goals as goal
 
 pub bounds-rows-place : goal.bounds-rows-place

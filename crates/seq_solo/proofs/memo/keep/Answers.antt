@@ -1,4 +1,4 @@
-use Rattle.std.proofs.Common.{◌≡◌, ◌∙◌, [], ◌∷◌, ◌++◌, List, ap, length, refl}
+use Rattle.std.proofs.Common.{◌≡◌, ◌∙◌, [], ◌∷◌, ◌++◌, ap, length, refl}
 use Rattle.seq_inst.specs.Members.{members}
 use Rattle.seq_core.specs.Mapping.{Mapping}
 use Rattle.seq_solo.proofs.MemoLaws.{kept-memo, kept-more, pushed}

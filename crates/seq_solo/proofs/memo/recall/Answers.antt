@@ -1,4 +1,4 @@
-use Rattle.std.proofs.Common.{◌≡◌, ◌<◌, ◌∙◌, sym, ap, arith, Some}
+use Rattle.std.proofs.Common.{◌∙◌, sym, ap, arith, Some}
 use Rattle.std.proofs.lemmas.List.{get_or_read}
 use Rattle.seq_inst.specs.Members.{members}
 use Rattle.seq_solo.proofs.MemoLaws.{recalled}

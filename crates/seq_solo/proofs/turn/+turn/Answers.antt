@@ -1,4 +1,4 @@
-use Rattle.std.proofs.Common.{◌≡◌, ◌<◌, ◌≤◌, ◌∙◌, sym, ap, subst, arith, length}
+use Rattle.std.proofs.Common.{◌≤◌, ◌∙◌, sym, ap, subst, arith, length}
 use Rattle.seq_theory.specs.Rows.{no_value, most_low, least_up}
 use Rattle.seq_inst.specs.Members.{members}
 use Rattle.seq_core.specs.RowsOf.{rows_of as rows_from}
