@@ -12,12 +12,7 @@ use Rattle.seq_inst.specs.declared.group.Group.{Group}
 use Rattle.seq_inst.specs.declared.instance.Instance.{Instance}
 use Rattle.seq_inst.specs.Members.{members}
 use Rattle.seq_inst.specs.Instances.{problem_of}
-<<<<<<< HEAD
 use Rattle.seq_inst.proofs.WithinLaws.{light}
-use Rattle.seq_huff.specs.Bounds.{greatest_cost}
-=======
-use Rattle.seq_inst.proofs.WithinLaws.{light}
->>>>>>> c0671e42bb576b3f4e757675ab048f82449820ba
 use Rattle.seq_huff.proofs.BoundFits.{product-le}
 use Rattle.seq_solo.specs.declared.choice.Chosen.{Chosen}
 use Rattle.seq_solo.specs.Choice.{lesser_choice, lesser_value}
