@@ -106,13 +106,13 @@ use_of members = record { name = name_at Name members; block = name_at BlockKey 
 
 -- the functional fault of a part: its weight, and its signals, which are required with it
 abbrev pub functional_breaches : Spot → Members → Option Data → List Refusal
-functional_breaches spot members None = []
-functional_breaches spot members (Some d) =
-    weight_breaches (at_key spot FunctionalKey) d ++ required_at names_breaches spot Signals members
+functional_breaches spot table None = []
+functional_breaches spot table (Some d) =
+    weight_breaches (at_key spot FunctionalKey) d ++ required_at names_breaches spot Signals table
 
 abbrev pub functional_of : Members → Option Data → Option Functional
-functional_of members None = None
-functional_of members (Some d) = Some (record { weight = number_of d; signals = names_at Signals members })
+functional_of table None = None
+functional_of table (Some d) = Some (record { weight = number_of d; signals = names_at Signals table })
 
 -- a part
 abbrev pub part_breaches : Spot → Members → List Refusal
