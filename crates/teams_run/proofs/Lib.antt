@@ -4,3 +4,4 @@ pub mod ModeLaws
 pub mod ValueLaws
 pub mod PlanLaws
 pub mod StandLaws
+pub mod DueLaws

@@ -1,5 +1,5 @@
 -- What holds of the ambiguity groups holds of the states: an outcome, and a certified report.
-use Rattle.std.proofs.Common.{◌≡◌, ◌∙◌, ℕ, refl, sym}
+use Rattle.std.proofs.Common.{◌∙◌, ℕ, refl, sym}
 use Rattle.seq_theory.specs.Problem.{Problem, AreTold, IsWeighed, all_classes}
 use Rattle.seq_theory.specs.Laws.{HasLeast}
 use Rattle.seq_theory.specs.PassageLaws.{PassageStands}

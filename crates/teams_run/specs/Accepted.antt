@@ -27,7 +27,7 @@ mode_refusals modes (Some name) = breach_if (not (has modes name)) M15 ModeOptio
 -- what a text is refused for, in order: its keys and values, its names and links, its unfolded size. What a later layer
 -- says counts only where the earlier ones say nothing.
 abbrev pub text_refusals : List ℕ → List Refusal
-text_refusals content = text_breaches content ++ breaches (text_model content) ++ option_to_list (flat_refusal (model_of content))
+text_refusals content = text_breaches content ++ (breaches (text_model content) ++ option_to_list (flat_refusal (model_of content)))
 
 -- and then a mode that isn't one of its own
 abbrev pub refusals : List ℕ → Option (List ℕ) → List Refusal

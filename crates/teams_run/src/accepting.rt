@@ -17,8 +17,14 @@ pub fn flat_of_text(alloc: Global, content: &[u8]) -> Result<Flat, ModelFault>
     ensures valid { IfOk result IsValid }
     ensures refused { IfErr result (TellsFirst (text_refusals content.now)) }
 {
-    let model = read_model(alloc, content)?;
-    let valid = model.check(alloc)?;
+    let model = match read_model(alloc, content) {
+        Ok(model) => model,
+        Err(fault) => return Err(fault),
+    };
+    let valid = match model.check(alloc) {
+        Ok(valid) => valid,
+        Err(fault) => return Err(fault),
+    };
     flatten(alloc, &valid)
 }
 

@@ -33,13 +33,20 @@ pub struct Accepted {
 }
 
 /// The mode's name, or `-`.
-pub fn mode_word(mode: Option<&Text>) -> &str
+fn mode_word(mode: Option<&Text>) -> &str
     ensures { result.now ≡ mode_word (option_map (λ m. m.now) mode.entry) }
 {
     match mode {
         Some(name) => name.as_str(),
         None => "-",
     }
+}
+
+/// The plan's mode by its name, or `-`.
+pub fn mode_name(plan: &Plan) -> &str
+    ensures { result.now ≡ mode_word plan.now.mode }
+{
+    mode_word(plan.mode.as_ref())
 }
 
 /// The matrix of the text, in the plan's mode.
@@ -52,7 +59,10 @@ pub fn accept(alloc: Global, plan: &Plan, content: &[u8]) -> Result<Accepted, Mo
     ensures valid { IfOk result (λ a. IsValid a.matrix) }
     ensures refused { IfErr result (TellsFirst (refusals content.now plan.now.mode)) }
 {
-    let flat = flat_of_text(alloc, content)?;
+    let flat = match flat_of_text(alloc, content) {
+        Ok(flat) => flat,
+        Err(fault) => return Err(fault),
+    };
     let mode = mode_of(&flat, plan.mode.as_ref())?;
     let matrix = matrix_of(alloc, &flat, mode)?;
     Ok(Accepted { flat, matrix, mode })
@@ -101,7 +111,7 @@ fn solve_due(alloc: Global, plan: &Plan, flat: &Flat, matrix: &Matrix) -> Result
     ensures text { IfOk result (λ due. IsTextFor Action.Solve plan.now flat.now matrix.now due.status due.text.items) }
     ensures unsolved { IfErr result (TellsUnsolved (system_of matrix.now)) }
 {
-    let name = mode_word(plan.mode.as_ref());
+    let name = mode_name(plan);
     let prepared = prepare(alloc, matrix, name)?;
     let solution = solution_of(alloc, matrix, &prepared, name, plan.groups)?;
     Ok(solved(solution))
@@ -131,7 +141,7 @@ fn action_due(alloc: Global, plan: &Plan, accepted: &Accepted) -> Result<Due, Mo
     ensures unfit { IfErr result (TellsUnfit plan.now (system_of accepted.now.matrix)) }
 {
     let matrix = &accepted.matrix;
-    let name = mode_word(plan.mode.as_ref());
+    let name = mode_name(plan);
     match plan.action {
         Action::Solve => solve_due(alloc, plan, &accepted.flat, matrix),
         Action::Matrix => {
@@ -170,6 +180,6 @@ pub fn prepared_for(
     ensures refused { IfErr result (TellsWhy plan.now content.now) }
 {
     let accepted = accept(alloc, plan, content)?;
-    let prepared = prepare(alloc, &accepted.matrix, mode_word(plan.mode.as_ref()))?;
+    let prepared = prepare(alloc, &accepted.matrix, mode_name(plan))?;
     Ok((accepted, prepared))
 }

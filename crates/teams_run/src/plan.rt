@@ -129,7 +129,7 @@ fn are_digits(word: &[u8]) -> bool
 /// The limit of groups that a word of one to five decimal digits says.
 fn limit_of(word: &str) -> Option<u32>
     ensures limit { IfSome result IsLimit }
-    ensures { MatchOption result (is_limit word.now ≡ false) (λ limit. (is_limit word.now ≡ true) × (limit ≡ value_after 0 word.now)) }
+    ensures value { MatchOption result (is_limit word.now ≡ false) (λ limit. (is_limit word.now ≡ true) × (limit ≡ value_after 0 word.now)) }
 {
     if word.len() > 5 || !are_digits(word.as_bytes()) {
         return None;
@@ -145,7 +145,7 @@ fn limit_of(word: &str) -> Option<u32>
 /// What the last words choose: nothing, or a mode.
 fn mode_options(words: &[String]) -> Option<Options<'_>>
     ensures limit { IfSome result (λ o. IsLimit o.groups) }
-    ensures { option_map options_in result ≡ mode_options (map string_bytes words.entry.now) }
+    ensures options { option_map options_in result ≡ mode_options (map string_bytes words.entry.now) }
 {
     match words {
         [] => Some(Options {
@@ -167,7 +167,7 @@ fn mode_options(words: &[String]) -> Option<Options<'_>>
 
 fn with_groups<'a>(value: &str, options: Option<Options<'a>>) -> Option<Options<'a>>
     ensures limit { IfSome result (λ o. IsLimit o.groups) }
-    ensures { option_map options_in result ≡ with_groups value.now (option_map options_in options.entry) }
+    ensures options { option_map options_in result ≡ with_groups value.now (option_map options_in options.entry) }
 {
     let Some(options) = options else {
         return None;
@@ -185,7 +185,7 @@ fn with_groups<'a>(value: &str, options: Option<Options<'a>>) -> Option<Options<
 /// A limit of groups, and then a mode.
 fn group_options(words: &[String]) -> Option<Options<'_>>
     ensures limit { IfSome result (λ o. IsLimit o.groups) }
-    ensures { option_map options_in result ≡ group_options (map string_bytes words.entry.now) }
+    ensures options { option_map options_in result ≡ group_options (map string_bytes words.entry.now) }
 {
     match words {
         [word, rest @ ..] => match groups_in(word.as_str()) {
@@ -200,7 +200,7 @@ fn with_cert<'a>(name: &'a str, options: Option<Options<'a>>) -> Option<Options<
     requires limit { IfSome options (λ o. IsLimit o.groups) }
     ensures cert { IfSome result (λ o. IsSome o.cert) }
     ensures limit { IfSome result (λ o. IsLimit o.groups) }
-    ensures { option_map options_in result ≡ with_cert name.entry.now (option_map options_in options.entry) }
+    ensures options { option_map options_in result ≡ with_cert name.entry.now (option_map options_in options.entry) }
 {
     let Some(options) = options else {
         return None;
@@ -216,7 +216,7 @@ fn with_cert<'a>(name: &'a str, options: Option<Options<'a>>) -> Option<Options<
 fn cert_options(words: &[String]) -> Option<Options<'_>>
     ensures cert { IfSome result (λ o. IsSome o.cert) }
     ensures limit { IfSome result (λ o. IsLimit o.groups) }
-    ensures { option_map options_in result ≡ cert_options (map string_bytes words.entry.now) }
+    ensures options { option_map options_in result ≡ cert_options (map string_bytes words.entry.now) }
 {
     match words {
         [word, rest @ ..] => match cert_in(word.as_str()) {
@@ -240,7 +240,7 @@ fn after_workers(words: &[String]) -> &[String]
 fn options_for(action: Action, words: &[String]) -> Option<Options<'_>>
     ensures cert { action ≡ Action.Check → IfSome result (λ o. IsSome o.cert) }
     ensures limit { IfSome result (λ o. IsLimit o.groups) }
-    ensures { option_map options_in result ≡ options_for action (map string_bytes words.entry.now) }
+    ensures options { option_map options_in result ≡ options_for action (map string_bytes words.entry.now) }
 {
     match action {
         Action::Solve => group_options(after_workers(words)),

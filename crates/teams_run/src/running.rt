@@ -8,7 +8,7 @@ ghost use Rattle.teams_run.specs.RefusalText.{refusal_line};
 ghost use Rattle.teams_run.specs.Texts.{IsDue, cert_limit, cert_name};
 ghost use Rattle.teams_run.specs.Runs.{IsDueText, WritesDue, WritesPart, IsSilent, IsProper, ForPlan, HasLongFile, LacksFile};
 
-use crate::answering::{answer_for, mode_word, prepared_for};
+use crate::answering::{answer_for, mode_name, prepared_for};
 use crate::due::Due;
 use crate::judging::judgement_on;
 use crate::plan::{Action, Plan, PlanFault, plan_of};
@@ -56,6 +56,17 @@ fn answer_due<D: Shelf>(
     }
 }
 
+/// The name of the certificate's file.
+fn cert_name(plan: &Plan) -> &str
+    requires { IsSome plan.now.cert }
+    ensures { result.now ≡ cert_name plan.now }
+{
+    match &plan.cert {
+        Some(name) => name.as_str(),
+        None => unreachable!(),
+    }
+}
+
 /// What is due for a certificate, which is fetched once the model is accepted.
 fn check_due<D: Shelf>(
     alloc: Global,
@@ -77,12 +88,8 @@ fn check_due<D: Shelf>(
         Err(ModelFault::Refused(refusal)) => return refused(alloc, refusal),
         Err(ModelFault::OutOfMemory) => return Err(FetchFault::OutOfMemory),
     };
-    let name = match &plan.cert {
-        Some(name) => name.as_str(),
-        None => unreachable!(),
-    };
-    let cert = fetch(alloc, shelf, name, 16_777_216)?;
-    let mode = mode_word(plan.mode.as_ref());
+    let cert = fetch(alloc, shelf, cert_name(plan), 16_777_216)?;
+    let mode = mode_name(plan);
     match judgement_on(alloc, &accepted.matrix, &prepared, mode, cert.as_slice()) {
         Ok(due) => Ok(due),
         Err(_) => Err(FetchFault::OutOfMemory),
