@@ -1,6 +1,6 @@
 -- The first of several lists of refusals, one after the other; and which layer a text is refused by.
 use Rattle.std.proofs.Common.{◌≡◌, ℕ, List, [], ◌∷◌, ◌++◌, sym, subst}
-use Rattle.std.specs.Prelude.{Option, Some, None}
+use Rattle.std.specs.Prelude.{Option}
 use Rattle.std.specs.Option.{option_to_list}
 use Rattle.std.proofs.lemmas.Option.{none-some}
 use Rattle.sig_types.specs.declared.model.Model.{Model}
@@ -11,7 +11,6 @@ use Rattle.sig_types.specs.Breaches.{breaches}
 use Rattle.sig_types.specs.Refused.{TellsFirst}
 use Rattle.sig_text.specs.Texts.{text_breaches, text_model}
 use Rattle.sig_flat.specs.Counts.{flat_refusal}
-use Rattle.sig_flat.specs.Refused.{TellsRefusal}
 use Rattle.teams_run.specs.Accepted.{model_of, mode_refusals, refusals, text_refusals}
 
 -- the first of the first list is the first of all
@@ -25,13 +24,6 @@ tells_left (x ∷ xs) ys OutOfMemory t = tt
 tells_right : (xs ys : List Refusal) (f : ModelFault) → xs ≡ [] → TellsFirst ys f → TellsFirst (xs ++ ys) f
 tells_right xs ys f none t = subst (λ zs. TellsFirst (zs ++ ys) f) (sym none) t
 
--- one refusal, or none, as a list
-tells_one : (r : Option Refusal) (f : ModelFault) → TellsRefusal r f → TellsFirst (option_to_list r) f
-tells_one None (Refused r) t = absurd (none-some r t)
-tells_one (Some s) (Refused r) t = t
-tells_one None OutOfMemory t = tt
-tells_one (Some s) OutOfMemory t = tt
-
 pub refused_by_reader : (content : List ℕ) (f : ModelFault) → TellsFirst (text_breaches content) f → TellsFirst (text_refusals content) f
 refused_by_reader content f t = tells_left (text_breaches content) (breaches (text_model content) ++ option_to_list (flat_refusal (model_of content))) f t
 
@@ -39,12 +31,6 @@ pub refused_by_check : (content : List ℕ) (model : Model) (f : ModelFault) →
 refused_by_check content model f read is t =
     tells_right (text_breaches content) (breaches (text_model content) ++ option_to_list (flat_refusal (model_of content))) f read
     (tells_left (breaches (text_model content)) (option_to_list (flat_refusal (model_of content))) f (subst (λ m. TellsFirst (breaches m) f) is t))
-
-pub refused_by_size : (content : List ℕ) (model : Model) (f : ModelFault) → text_breaches content ≡ [] → breaches (text_model content) ≡ [] → model ≡ model_of content → TellsRefusal (flat_refusal model) f → TellsFirst (text_refusals content) f
-refused_by_size content model f read checked is t =
-    tells_right (text_breaches content) (breaches (text_model content) ++ option_to_list (flat_refusal (model_of content))) f read
-    (tells_right (breaches (text_model content)) (option_to_list (flat_refusal (model_of content))) f checked
-    (tells_one (flat_refusal (model_of content)) f (subst (λ m. TellsRefusal (flat_refusal m) f) is t)))
 
 pub refused_as_text : (content : List ℕ) (mode : Option (List ℕ)) (f : ModelFault) → TellsFirst (text_refusals content) f → TellsFirst (refusals content mode) f
 refused_as_text content mode f t = tells_left (text_refusals content) (mode_refusals (model_of content).modes mode) f t
