@@ -15,6 +15,7 @@ use crate::preparing::Prepared;
 use seq_cert::report_of;
 use seq_finish::{finish, outcomes_hold};
 use seq_inst::{Instance, Outcome, Verdict};
+use seq_shown::{outcomes_print, reports_hold};
 use seq_solo::solve_alone;
 use seq_theory::{classes_hold, has_least, passage_holds};
 use sig_matrix::Matrix;
@@ -64,6 +65,8 @@ pub fn solution_of(
 {
     let outcome = outcome_of(alloc, &prepared.inst, groups)?;
     outcome_stands(matrix, &prepared.inst, &outcome, groups);
+    reports_hold();
+    outcomes_print();
     let text = report_of(alloc, &prepared.inst, &outcome, &prepared.labels)?;
     Ok(Solution {
         verdict: outcome.verdict,

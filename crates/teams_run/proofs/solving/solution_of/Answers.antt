@@ -1,9 +1,13 @@
 use Rattle.std.proofs.Common.{◌∙◌, refl, sym, ap, subst}
 use Rattle.seq_inst.specs.Instances.{problem_of}
+use Rattle.sig_classes.specs.Labels.{labels_from}
 use Rattle.seq_cert.specs.LabelsOf.{AreLabelsOf}
+use Rattle.seq_cert.specs.Printable.{IsPrintable}
+use Rattle.seq_cert.specs.ReportForm.{IsReport}
 use Rattle.seq_cert.specs.Text.{report_bytes}
 use Rattle.seq_cert.specs.OutcomeReport.{report_from}
 use Rattle.teams_run.proofs.LabelLaws.{labels-are}
+use Rattle.teams_run.proofs.StandLaws.{weighed}
 use Rattle.teams_run.proofs.solving.solution_of.Goals as goal
 
 pub report_of-requires-clause-labels : goal.report_of-requires-clause-labels
@@ -14,6 +18,10 @@ report_of-requires-clause-labels c =
 pub returns : goal.returns
 returns c =
     let p = problem_of c.args.prepared.now.inst in
+    let o = c.in_ok-outcome.outcome in
+    let labels = labels_from c.args.matrix.now c.args.mode.now in
+    let valid = c.args.prepared.now.inst.valid in
+    let form = subst (λ l. IsPrintable o l → IsReport (report_from p o l)) c.requires.prepared.labels c.in_ok-text.ensures.form in
     record {
       problem = p;
       classes = c.requires.prepared.classes;
@@ -22,4 +30,7 @@ returns c =
       stands = c.outcome_stands.ensures;
       verdict_is = refl;
       report = c.in_ok-text.ensures.text ∙ ap (λ l. report_bytes (report_from p c.in_ok-outcome.outcome l)) c.requires.prepared.labels;
+      accepted = λ printable.
+          c.reports_hold.ensures p labels c.args.groups o (weighed c.args.prepared.now.inst) valid.told c.in_ok-outcome.ensures
+          (form (c.outcomes_print.ensures.printable p labels c.args.groups o valid.told (valid.some, valid.few) c.requires.limit printable c.in_ok-outcome.ensures));
     }

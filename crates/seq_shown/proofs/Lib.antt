@@ -1,0 +1,13 @@
+pub mod GoodLooks
+pub mod NeededTests
+pub mod DrawnLines
+pub mod LineOrder
+pub mod WholeGroup
+pub mod RowLines
+pub mod ListedGroups
+pub mod ModelLines
+pub mod HeadLines
+pub mod MissedLine
+pub mod Reports
+pub mod Printing
+pub mod LabelWords

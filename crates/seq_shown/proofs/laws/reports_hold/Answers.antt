@@ -1,0 +1,9 @@
+use Rattle.seq_cert.specs.OutcomeReport.{report_from}
+use Rattle.seq_shown.proofs.Reports.{report-certified}
+use Rattle.seq_shown.proofs.laws.reports_hold.Goals as goal
+
+pub returns : goal.returns
+returns c = λ p labels limit o w told right form. record {
+  read = c.one_text.ensures.again (report_from p o labels) form;
+  certified = report-certified p labels limit o w told right form.groups;
+}
