@@ -226,6 +226,54 @@ fn coded(alloc: Global, parts: u64) -> Result<String, AllocError> {
     Ok(text)
 }
 
+/// Blocks in a row, of which each has so many uses of the one before, and the first has so many parts.
+fn stacked(alloc: Global, blocks: u64, uses: u64, parts: u64) -> Result<String, AllocError> {
+    let last = blocks.saturating_sub(1);
+    let mut text = format!(in alloc; "version = 1\ngood = 1\ntop = \"b{last}\"\n")?;
+    for block in 0..blocks {
+        let head = format!(in alloc; "[[block]]\nname = \"b{block}\"\n")?;
+        text.push_str(head.as_str())?;
+        if block == 0 {
+            for part in 0..parts {
+                let line = format!(in alloc; "[[block.part]]\nname = \"p{part}\"\n")?;
+                text.push_str(line.as_str())?;
+            }
+        } else {
+            let before = block - 1;
+            for used in 0..uses {
+                let line = format!(in alloc;
+                    "[[block.use]]\nname = \"u{used}\"\nblock = \"b{before}\"\n"
+                )?;
+                text.push_str(line.as_str())?;
+            }
+        }
+    }
+    Ok(text)
+}
+
+/// Unfolded models at their limits and past them; the largest would have more uses than a word can count.
+#[test]
+fn unfolded_sizes(rt: HostRuntime) -> Result<(), Fail> {
+    let alloc = rt.alloc();
+    for (blocks, uses, parts, line) in [
+        (17, 1, 1, "teams matrix 1\n"),
+        (18, 1, 1, "refused M13 at depth\n"),
+        (12, 2, 1, "teams matrix 1\n"),
+        (13, 2, 1, "refused M13 at uses\n"),
+        (17, 1000, 1, "refused M13 at uses\n"),
+        (2, 64, 64, "teams matrix 1\n"),
+        (2, 65, 64, "refused M13 at nodes\n"),
+    ] {
+        let text = stacked(alloc, blocks, uses, parts)?;
+        let (_status, wrote) = ran(alloc, &["matrix", "m.toml"], text.as_str().as_bytes())?;
+        assert!(rt;
+            wrote.as_slice().starts_with(line.as_bytes()),
+            "{blocks} {uses} {parts}"
+        );
+    }
+    Ok(())
+}
+
 /// Past 512 ambiguity groups nothing is solved, and the matrix and the figures still come.
 #[test]
 fn many_groups(rt: HostRuntime) -> Result<(), Fail> {
