@@ -1,4 +1,7 @@
 pub mod SumLaws
+pub mod SortLaws
+pub mod QueueLaws
+pub mod MergingLaws
 pub mod GoalLaws
 pub mod Written
 pub mod BoundFits

@@ -11,6 +11,7 @@ mod choice;
 mod lower;
 mod merging;
 mod scratch;
+mod sorting;
 mod steps;
 #[cfg(test)]
 mod tests;

@@ -8,8 +8,8 @@ ghost use Rattle.seq_inst.specs.Members.{members};
 ghost use Rattle.seq_inst.specs.Instances.{problem_of};
 ghost use Rattle.seq_huff.specs.Bounds.{IsAtMostLeast, greatest_cost};
 
-use crate::merging::sort_upward;
 use crate::scratch::Scratch;
+use crate::sorting::sort_upward;
 use crate::weights::huffman;
 use seq_inst::{Group, Instance, is_leaf, splits, weight_of};
 

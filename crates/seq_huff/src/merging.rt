@@ -1,48 +1,68 @@
-//! Huffman's cost of numbers in a slice, by the plain rule: put them in upward order, take the two
-//! least, put their sum in its place among the others, and go on. The sums that are made add up to the
-//! cost. The numbers are given up, so no list is copied.
-ghost use Rattle.std.specs.Prelude.{◌≡◌, ◌*◌, ◌^◌, ◌<◌, ◌≤◌, length, drop, sum};
-ghost use Rattle.seq_theory.specs.Huffman.{place_in, upward, merging as merge_cost, huff};
+//! Huffman's cost of weights in a slice, by two queues (van Leeuwen, "On the construction of Huffman
+//! trees", 1976). Huffman's rule takes the two least numbers and puts their sum among the others, again
+//! and again; the sums add up to the cost. They come out upwards, since each is of two numbers that are
+//! at least those of the sum before. So once the weights are sorted, the weights that are left are one
+//! queue and the sums that are left another, and the least number is first in one of them: a merge takes
+//! a fixed number of steps, and the sort is the dearest part.
+//!
+//! Each merge takes two numbers and makes one, so the sums fit in the places of weights that were taken
+//! (Moffat and Katajainen, "In-place calculation of minimum-redundancy codes", 1995). No other room is
+//! wanted; the weights are given up.
+ghost use Rattle.std.specs.Prelude.{◌≡◌, ◌+◌, ◌*◌, ◌^◌, ◌<◌, ◌≤◌, length, take, drop, sum};
+ghost use Rattle.seq_theory.specs.Huffman.{upward, merging as merge_cost, huff};
+ghost use Rattle.seq_huff.specs.Queues.{TakesLeast};
 
-/// Writes the number in its place among those after the first, which are in upward order; the first
-/// is given up.
-fn place(numbers: &mut [u64], number: u64)
-    requires { 1 ≤ length numbers.old }
-    ensures { numbers.new ≡ place_in number (drop 1 numbers.old) }
-{
-    if numbers.len() == 1 || number <= numbers[1] {
-        numbers[0] = number;
-    } else {
-        numbers[0] = numbers[1];
-        place(&mut numbers[1..], number);
-    }
+use crate::sorting::sort_upward;
+
+/// The places of the first weight and of the first sum that are left.
+#[derive(Clone, Copy)]
+struct Fronts {
+    weight: usize,
+    sum: usize,
 }
 
-/// Puts the numbers in upward order.
-pub(crate) fn sort_upward(numbers: &mut [u64])
-    ensures { numbers.new ≡ upward numbers.old }
+/// Takes the least number that is left. The sums stand in the places below `made`.
+#[inline(always)]
+fn take_least(numbers: &[u64], made: usize, fronts: &mut Fronts) -> u64
+    requires made { made ≤ length numbers.now }
+    requires weights { fronts.old.weight ≤ length numbers.now }
+    requires sums { fronts.old.sum ≤ made }
+    requires some { fronts.old.weight + fronts.old.sum < length numbers.now + made }
+    ensures takes { TakesLeast (drop fronts.old.weight numbers.now) (drop fronts.old.sum (take made numbers.now)) result (drop fronts.new.weight numbers.now) (drop fronts.new.sum (take made numbers.now)) }
+    ensures weights { fronts.new.weight ≤ length numbers.now }
+    ensures sums { fronts.new.sum ≤ made }
+    ensures one { fronts.new.weight + fronts.new.sum ≡ 1 + (fronts.old.weight + fronts.old.sum) }
 {
-    if numbers.len() > 1 {
-        sort_upward(&mut numbers[1..]);
-        let first = numbers[0];
-        place(numbers, first);
+    let Fronts { weight, sum } = *fronts;
+    if sum == made {
+        fronts.weight = weight + 1;
+        return numbers[weight];
     }
+    if weight < numbers.len() && numbers[weight] <= numbers[sum] {
+        fronts.weight = weight + 1;
+        return numbers[weight];
+    }
+    fronts.sum = sum + 1;
+    numbers[sum]
 }
 
-/// What merging the two least again and again costs, of numbers in upward order; what is left of
-/// them is given up.
+/// What merging the two least again and again costs, of numbers in upward order, which are given up.
 fn merge_sum(numbers: &mut [u64]) -> u64
-    requires { length numbers.old * sum numbers.old < 2 ^ 64 }
+    requires up { numbers.old ≡ upward numbers.old }
+    requires fits { length numbers.old * sum numbers.old < 2 ^ 64 }
     ensures { result ≡ merge_cost (length numbers.old) numbers.old }
 {
-    if numbers.len() <= 1 {
-        0
-    } else {
-        let two = numbers[0] + numbers[1];
-        let rest = &mut numbers[1..];
-        place(rest, two);
-        two + merge_sum(rest)
+    let merges = numbers.len().saturating_sub(1);
+    let mut fronts = Fronts { weight: 0, sum: 0 };
+    let mut cost = 0;
+    for made in 0..merges {
+        let least = take_least(numbers, made, &mut fronts);
+        let second = take_least(numbers, made, &mut fronts);
+        let both = least + second;
+        numbers[made] = both;
+        cost += both;
     }
+    cost
 }
 
 /// Huffman's cost of the numbers, which are given up.

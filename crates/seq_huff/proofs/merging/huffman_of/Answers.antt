@@ -1,8 +1,9 @@
-use Rattle.std.proofs.Common.{◌∙◌, ◌*◌, ap, length, arith}
+use Rattle.std.proofs.Common.{◌∙◌, ◌*◌, ◌≤◌, sym, ap, subst, length, arith}
 use Rattle.std.specs.Prelude.{sum}
 use Rattle.seq_theory.specs.Huffman.{upward, merging, huff}
 use Rattle.seq_theory.proofs.HuffmanLaws.{length-upward}
 use Rattle.seq_huff.proofs.SumLaws.{sum-upward}
+use Rattle.seq_huff.proofs.SortLaws.{upward-twice}
 use Rattle.seq_huff.proofs.merging.huffman_of.Goals as goal
 
 pub merge_sum-requires : goal.merge_sum-requires
@@ -11,7 +12,10 @@ merge_sum-requires c =
     let s = ap sum c.sort_upward.ensures ∙ sum-upward c.args.numbers.now in
     let e = ap (λ n. n * sum c.sort_upward.new.numbers) l ∙ ap (λ n. length c.args.numbers.now * n) s in
     let r = c.requires in
-    omega arith
+    record {
+      up = c.sort_upward.ensures ∙ sym (ap upward c.sort_upward.ensures ∙ upward-twice c.args.numbers.now);
+      fits = omega arith;
+    }
 
 pub returns : goal.returns
 unfolding huff
