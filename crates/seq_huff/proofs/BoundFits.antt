@@ -1,10 +1,10 @@
 -- The sums and products of a bound fit a word: a group weighs at most 4,097,000,000, and all costs are at most
 -- 256,000,000 together.
-use Rattle.std.proofs.Common.{◌≡◌, ℕ, zero, suc, ◌+◌, ◌<◌, ◌≤◌, List, [], ◌∷◌, length, refl, sym, ap, ◌∙◌, arith, inl, inr, take, ◌*◌, ◌^◌, ◌-◌, ◌/◌, ◌%◌, get_or, drop}
+use Rattle.std.proofs.Common.{◌≡◌, ℕ, zero, suc, ◌+◌, ◌<◌, ◌≤◌, List, [], ◌∷◌, length, refl, sym, ap, ◌∙◌, arith, inl, inr, ◌*◌, ◌^◌, ◌/◌, ◌%◌, get_or, add-one}
 use Rattle.std.proofs.Math.Nat.{mul-le-mul_left, mul-le-mul_right}
 use Rattle.std.proofs.lemmas.List.Sums.{sum_by-cons}
-use Rattle.std.specs.Prelude.{true, false, map, sum}
-use Rattle.std.proofs.lemmas.Bool.{cases_Bool}
+use Rattle.std.specs.Prelude.{true, false, map, min, sum}
+use Rattle.std.proofs.lemmas.Bool.{cases_Bool, cases_lt}
 use Rattle.seq_theory.specs.Problem.{Problem, IsIn, IsWithin, weight_of, is_end, splits, splitting, least_of}
 use Rattle.seq_theory.specs.Huffman.{upward, huff}
 use Rattle.seq_theory.proofs.BoundLeast.{weight-positive, some_class}
@@ -47,17 +47,31 @@ first_le zero xs = omega arith
 first_le (suc k) [] = omega arith
 first_le (suc k) (x ∷ xs) = omega (arith, first_le k xs, sum_by-cons (λ n. n) x xs)
 
-whole_take : (n : ℕ) (xs : List ℕ) → length xs ≤ n → take n xs ≡ xs
-whole_take zero [] le = refl
-whole_take zero (x ∷ xs) le = absurd (let bad : ⊥ = omega arith in bad)
-whole_take (suc n) [] le = refl
-whole_take (suc n) (x ∷ xs) le = ap (λ l. x ∷ l) (whole_take n xs (omega arith))
+first_suc : (k : ℕ) (xs : List ℕ) → k < length xs → sum_first (suc k) xs ≡ sum_first k xs + get_or xs k 0
+first_suc k [] lt = absurd (let bad : ⊥ = omega arith in bad)
+first_suc zero (x ∷ xs) lt = omega arith
+first_suc (suc k) (x ∷ xs) lt = omega (arith, first_suc k xs (omega arith))
 
-pub first_fits : (k : ℕ) (xs : List ℕ) → get_or xs 0 0 + sum_first k (take (length xs - 1) (drop 1 xs)) ≤ sum xs
-first_fits k [] = omega (arith, first_le k [])
-first_fits k (x ∷ xs) =
-    let e = ap (sum_first k) (whole_take (length (x ∷ xs) - 1) xs (omega arith)) in
-    omega (arith, first_le k xs, sum_by-cons (λ n. n) x xs)
+pub first_more : (k : ℕ) (xs : List ℕ) → k < length xs → sum_first k xs + get_or xs k 0 ≡ sum_first (k + 1) xs
+first_more k xs lt = sym (ap (λ n. sum_first n xs) (add-one k) ∙ first_suc k xs lt)
+
+first_all : (k : ℕ) (xs : List ℕ) → length xs ≤ k → sum_first (length xs) xs ≡ sum_first k xs
+first_all zero [] le = refl
+first_all (suc k) [] le = refl
+first_all zero (x ∷ xs) le = absurd (let bad : ⊥ = omega arith in bad)
+first_all (suc k) (x ∷ xs) le = ap (λ n. x + n) (first_all k xs (omega arith))
+
+pub first_there : (end k : ℕ) (xs : List ℕ) → end ≡ min (length xs) k → sum_first end xs ≡ sum_first k xs
+first_there end k xs e = elim (cases_lt k (length xs)) [
+  | inl lt ↦ ap (λ n. sum_first n xs) (let is : end ≡ k = omega arith in is)
+  | inr ge ↦ ap (λ n. sum_first n xs) (let is : end ≡ length xs = omega arith in is) ∙ first_all k xs ge
+]
+
+pub next_read : (k : ℕ) (xs : List ℕ) → get_or xs k 0 ≡ next_after k xs
+next_read zero [] = refl
+next_read (suc k) [] = refl
+next_read zero (x ∷ xs) = refl
+next_read (suc k) (x ∷ xs) = next_read k xs
 
 pub sum_first-le : (k : ℕ) (xs : List ℕ) → sum_first k xs ≤ sum xs
 sum_first-le k xs = first_le k xs

@@ -1,46 +1,14 @@
 -- The two queues of a merge as parts of one list: the weights that are left are its end, and the sums stand in the places of
 -- weights that were taken. A sum is written before the first weight that is left, since two numbers were taken for each.
-use Rattle.std.proofs.Common.{◌≡◌, ℕ, suc, ◌+◌, ◌*◌, ◌^◌, ◌-◌, ◌<◌, ◌≤◌, List, [], ◌∷◌, ◌++◌, length, take, drop, get_or, set, refl, sym, ap, ◌∙◌, arith, inl, inr, subst, add-one, length-set}
+use Rattle.std.proofs.Common.{◌≡◌, ℕ, suc, ◌+◌, ◌*◌, ◌^◌, ◌-◌, ◌<◌, ◌≤◌, List, [], ◌∷◌, ◌++◌, length, take, drop, set, refl, sym, ap, ◌∙◌, arith, subst, add-one, length-set}
 use Rattle.std.specs.Prelude.{sum}
-use Rattle.std.proofs.Math.Seq.{drop-cons, take-suc-set}
-use Rattle.std.proofs.lemmas.List.{get_or-take, drop_all, drop-append-le, drop-set-lt, length-take-le, length-drop}
-use Rattle.std.proofs.lemmas.Bool.{cases_lt}
+use Rattle.std.proofs.Math.Seq.{take-suc-set}
+use Rattle.std.proofs.lemmas.List.{drop-append-le, drop-set-lt, length-take-le, length-drop}
 use Rattle.seq_theory.specs.Huffman.{upward, merging}
 use Rattle.seq_theory.proofs.UpwardLaws.{IsUp, IsUp-upward}
 use Rattle.seq_huff.specs.Queues.{TakesLeast}
 use Rattle.seq_huff.proofs.SumLaws.{merging-le}
 use Rattle.seq_huff.proofs.QueueLaws.{placed, Queues, merged, queues_begin, placed-none, length-placed, merging-one}
-
-drop-first : (l : List ℕ) (i : ℕ) → i < length l → drop i l ≡ get_or l i 0 ∷ drop (i + 1) l
-drop-first l i h = drop-cons l i 0 h ∙ ap (λ k. get_or l i 0 ∷ drop k l) (sym (add-one i))
-
-drop-first_sum : (l : List ℕ) (i made : ℕ) → i < made → made ≤ length l → drop i (take made l) ≡ get_or l i 0 ∷ drop (i + 1) (take made l)
-drop-first_sum l i made h le =
-    let e : length (take made l) ≡ made = length-take-le made l le in
-    drop-first (take made l) i (omega arith) ∙ ap (λ x. x ∷ drop (i + 1) (take made l)) (get_or-take made l i 0 h)
-
-no_sum_left : (n : ℕ) (l : List ℕ) (i made : ℕ) → i ≡ made → made ≤ length l → n ≤ get_or (drop i (take made l)) 0 n
-no_sum_left n l i made e le =
-    let len : length (take made l) ≡ made = length-take-le made l le in
-    subst (λ xs. n ≤ get_or xs 0 n) (sym (drop_all i (take made l) (omega arith))) (omega arith)
-
-first_sum_above : (n : ℕ) (l : List ℕ) (i made : ℕ) → i < made → made ≤ length l → n ≤ get_or l i 0 → n ≤ get_or (drop i (take made l)) 0 n
-first_sum_above n l i made lt le h = subst (λ xs. n ≤ get_or xs 0 n) (sym (drop-first_sum l i made lt le)) h
-
-first_weight_above : (n : ℕ) (l : List ℕ) (i : ℕ) → (i < length l → n ≤ get_or l i 0) → n ≤ get_or (drop i l) 0 n
-first_weight_above n l i h = elim (cases_lt i (length l)) [
-  | inl lt ↦ subst (λ xs. n ≤ get_or xs 0 n) (sym (drop-first l i lt)) (h lt)
-  | inr ge ↦ subst (λ xs. n ≤ get_or xs 0 n) (sym (drop_all i l ge)) (omega arith)
-]
-
-pub takes-last_queue : (l : List ℕ) (weight made : ℕ) → made ≤ length l → weight < length l → TakesLeast (drop weight l) (drop made (take made l)) (get_or l weight 0) (drop (weight + 1) l) (drop made (take made l))
-takes-last_queue l weight made le lt = inl (drop-first l weight lt, refl, no_sum_left (get_or l weight 0) l made made refl le)
-
-pub takes-weight : (l : List ℕ) (weight sum made : ℕ) → sum < made → made ≤ length l → weight < length l → get_or l weight 0 ≤ get_or l sum 0 → TakesLeast (drop weight l) (drop sum (take made l)) (get_or l weight 0) (drop (weight + 1) l) (drop sum (take made l))
-takes-weight l weight sum made below le lt low = inl (drop-first l weight lt, refl, first_sum_above (get_or l weight 0) l sum made below le low)
-
-pub takes-sum : (l : List ℕ) (weight sum made : ℕ) → sum < made → made ≤ length l → (weight < length l → get_or l sum 0 ≤ get_or l weight 0) → TakesLeast (drop weight l) (drop sum (take made l)) (get_or l sum 0) (drop weight l) (drop (sum + 1) (take made l))
-takes-sum l weight sum made below le low = inr (drop-first_sum l sum made below le, refl, first_weight_above (get_or l sum 0) l weight low)
 
 -- what holds between two merges: l is the list as it stands, ws the weights as they were, upwards
 pub record Merging (ws l : List ℕ) (weight sum made cost : ℕ) : Type 0 where
@@ -91,7 +59,7 @@ merged-once ws l weight sum weight1 sum1 weight2 sum2 made cost x y lt m t1 t2 l
     let steps : length ws - made ≡ suc k = omega arith in
     let cost_is : merging (length ws - made) (placed (drop weight l) (drop sum (take made l))) ≡ (x + y) + merging k (placed (drop weight2 l) (drop sum2 (take made l) ++ (x + y) ∷ [])) = ap (λ n. merging n (placed (drop weight l) (drop sum (take made l)))) steps ∙ d.cost in
     let back : merging k (placed (drop weight2 (set l made (x + y))) (drop sum2 (take (made + 1) (set l made (x + y))))) ≡ merging k (placed (drop weight2 l) (drop sum2 (take made l) ++ (x + y) ∷ [])) =
-        ap (λ f. merging k (placed f (drop sum2 (take (made + 1) (set l made (x + y)))))) weights ∙ ap (λ q. merging k (placed (drop weight2 l) q)) sums in
+    ap (λ f. merging k (placed f (drop sum2 (take (made + 1) (set l made (x + y)))))) weights ∙ ap (λ q. merging k (placed (drop weight2 l) q)) sums in
     let total = m.total in
     record {
       after = record {

@@ -30,29 +30,24 @@ fn write_costs(inst: &Instance, group: &Group, out: &mut [u64]) -> usize
     count
 }
 
-/// The sum of the first so many numbers.
+/// The sum of the first so many numbers, or of all where there are fewer.
 fn sum_of_first(numbers: &[u64], count: u64) -> u64
     requires { sum numbers.now < 2 ^ 64 }
     ensures { result ≡ sum_first count numbers.now }
 {
-    if count == 0 || numbers.is_empty() {
-        0
-    } else {
-        numbers[0] + sum_of_first(&numbers[1..], count - 1)
+    let end = numbers.len().min(count as usize);
+    let mut total = 0;
+    for place in 0..end {
+        total += numbers[place];
     }
+    total
 }
 
 /// The number after so many, or 0.
 fn number_after(numbers: &[u64], count: u64) -> u64
     ensures { result ≡ next_after count numbers.now }
 {
-    if numbers.is_empty() {
-        0
-    } else if count == 0 {
-        numbers[0]
-    } else {
-        number_after(&numbers[1..], count - 1)
-    }
+    numbers.get(count as usize).copied().unwrap_or(0)
 }
 
 /// The lower bound of the group's least cost; 0 for one goal.

@@ -1,4 +1,4 @@
-use Rattle.std.proofs.Common.{◌∙◌, ◌*◌, ◌≤◌, sym, ap, subst, length, arith}
+use Rattle.std.proofs.Common.{◌∙◌, ◌*◌, sym, ap, length, arith}
 use Rattle.std.specs.Prelude.{sum}
 use Rattle.seq_theory.specs.Huffman.{upward, merging, huff}
 use Rattle.seq_theory.proofs.HuffmanLaws.{length-upward}
