@@ -25,10 +25,10 @@ use Rattle.seq_inst.specs.Instances.{problem_of}
 use Rattle.seq_huff.specs.Bounds.{greatest_cost}
 use Rattle.seq_huff.proofs.GreedyCode.{greedy-small}
 use Rattle.seq_huff.proofs.LeastBounds.{weighed}
-use Rattle.seq_core.specs.declared.kept.Kept.{Kept}
+use Rattle.seq_core.specs.declared.worth.Worth.{Worth}
 use Rattle.seq_core.specs.RowsOf.{row_of, rows_of, place_in, IsFit, AreFit}
 use Rattle.seq_core.specs.Changes.{new_row, change_row, raised, capped}
-use Rattle.seq_core.specs.Tables.{Table, AreKeptOf, IsTableOf}
+use Rattle.seq_core.specs.Tables.{Table, AreWorthsOf, IsTableOf}
 use Rattle.seq_core.specs.Settled.{groups_in, value_or, settled_row, first_row, row_at, size_at, IsSettledTo}
 use Rattle.seq_core.proofs.TableLaws.{no_row, place-found, place-absent, row-among, found-entered}
 

@@ -20,7 +20,7 @@ use Rattle.seq_huff.proofs.GreedyCode.{greedy-small}
 use Rattle.seq_huff.proofs.LeastBounds.{weighed}
 use Rattle.seq_core.specs.RowsOf.{row_of, rows_of, IsFit, AreFit}
 use Rattle.seq_core.specs.Changes.{new_row, change_row, raised, capped}
-use Rattle.seq_core.specs.Tables.{Table, AreKeptOf, IsTableOf}
+use Rattle.seq_core.specs.Tables.{Table, AreWorthsOf, IsTableOf}
 use Rattle.seq_core.specs.Allowed.{IsMostLow, IsLeastUp}
 use Rattle.seq_core.specs.Settled.{groups_in, value_or, settled_row, settled_rows, first_row, row_at, size_at, IsSettledTo}
 use Rattle.seq_core.proofs.TableLaws.{get-row}

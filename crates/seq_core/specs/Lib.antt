@@ -2,6 +2,8 @@ pub mod GroupOrder
 pub mod Mapping
 pub mod Ordered
 pub mod RowsOf
+pub mod WorthOf
+pub mod Numbered
 pub mod KeptOf
 pub mod Changes
 pub mod Tables

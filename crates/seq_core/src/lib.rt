@@ -9,6 +9,7 @@ mod event;
 mod kept;
 mod laws;
 mod machine;
+mod numbers;
 mod order;
 mod places;
 mod settling;
@@ -16,9 +17,11 @@ mod slots;
 mod table;
 #[cfg(test)]
 mod tests;
+mod worth;
 
 pub use event::{Event, Illegal};
-pub use kept::Kept;
+pub use kept::{Kept, Split};
+pub use numbers::Numbers;
 pub use laws::{changes_keep, entering_helps, sound_rows_settle};
 pub use machine::Core;
 pub use places::Places;
