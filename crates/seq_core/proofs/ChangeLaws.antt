@@ -1,9 +1,8 @@
 -- A change of one row that keeps its group keeps the places, what is kept, and the fitness of the rows; in the theory's
 -- rows it is the theory's change.
-use Rattle.std.proofs.Common.{◌≡◌, ◌⊎◌, ℕ, zero, suc, ◌+◌, ◌<◌, ◌≤◌, max, min, List, [], ◌∷◌, ◌++◌, length, get_or, set, refl, sym, ap, ◌∙◌, arith, inl, inr, subst, Option, Some, None}
-use Rattle.std.specs.Prelude.{map}
+use Rattle.std.proofs.Common.{◌≡◌, ℕ, zero, suc, ◌<◌, max, min, List, [], ◌∷◌, length, get_or, set, refl, sym, ap, arith, inl, inr, subst}
 use Rattle.seq_theory.specs.Problem.{Problem}
-use Rattle.seq_theory.specs.Rows.{Row as TheoryRow, IsRow, change_at}
+use Rattle.seq_theory.specs.Rows.{Row as TheoryRow, change_at}
 use Rattle.seq_inst.specs.declared.outcome.Row.{Row}
 use Rattle.seq_inst.specs.Members.{members}
 use Rattle.seq_core.specs.declared.worth.Worth.{Worth}

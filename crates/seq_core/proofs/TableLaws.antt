@@ -1,26 +1,23 @@
 -- Rows found by their groups: the map has the place of each row, a place leads to its row, and what is kept stands beside
 -- it.
-use Rattle.std.proofs.Common.{◌≡◌, ◌≢◌, ◌⊎◌, ℕ, zero, suc, ◌+◌, ◌<◌, ◌≤◌, max, List, [], ◌∷◌, ◌++◌, length, get_or, refl, sym, ap, ◌∙◌, arith, inl, inr, subst, Option, Some, None, length-append}
-use Rattle.std.specs.Prelude.{Bool, true, false, cond, map, slice_get, nat_eq}
+use Rattle.std.proofs.Common.{◌≡◌, ◌⊎◌, ℕ, zero, suc, ◌+◌, ◌<◌, max, List, [], ◌∷◌, ◌++◌, length, get_or, refl, sym, ap, ◌∙◌, arith, inl, inr, subst, Option, Some, None}
+use Rattle.std.specs.Prelude.{true, false, cond, slice_get, nat_eq}
 use Rattle.std.specs.Option.{option_map}
-use Rattle.std.proofs.lemmas.Bool.{cases_Bool, false≢true}
+use Rattle.std.proofs.lemmas.Bool.{cases_Bool}
 use Rattle.seq_theory.specs.Problem.{Problem, IsWithin, is_end}
 use Rattle.seq_theory.specs.Bound.{bound}
 use Rattle.seq_theory.specs.Graph.{same_group, is_entered}
 use Rattle.seq_theory.specs.Rows.{groups_of, IsRow, row_of as theory_row, low_or, up_or, known_low, known_up, no_value}
 use Rattle.seq_theory.specs.Rows.{Row as TheoryRow}
 use Rattle.seq_theory.proofs.RowLaws.{same_group-true, same_group-refl}
-use Rattle.seq_inst.specs.declared.group.Group.{Group}
 use Rattle.seq_inst.specs.declared.outcome.Row.{Row}
 use Rattle.seq_inst.specs.Members.{members}
 use Rattle.seq_inst.specs.Valid.{no_class}
-use Rattle.seq_huff.specs.Bounds.{greatest_cost}
 use Rattle.seq_core.specs.declared.worth.Worth.{Worth}
 use Rattle.seq_core.specs.Mapping.{Placed, place_of}
 use Rattle.seq_core.specs.WorthOf.{IsWorthOf}
 use Rattle.seq_core.specs.RowsOf.{row_of, rows_of, place_in, IsFit, AreFit}
 use Rattle.seq_core.specs.Tables.{Table, numbered, AreWorthsOf, IsTableOf}
-use Rattle.seq_core.specs.Changes.{new_row}
 
 abbrev pub no_row : Row
 no_row = record { group = no_class; low = 0; up = 0 }

@@ -1,5 +1,5 @@
 -- The events of the code as the theory's, and when one is refused.
-use Rattle.std.specs.Prelude.{◌≡◌, ℕ, cond, nat_lt, nat_le, List, [], ◌∷◌, ◌++◌, length, Option, Some, None, Result, Ok, Err, slice_get}
+use Rattle.std.specs.Prelude.{ℕ, cond, nat_lt, nat_le, List, [], ◌∷◌, ◌++◌, length, Option, Some, None, Result, Ok, Err, slice_get}
 use Rattle.seq_theory.specs.Problem.{Problem}
 use Rattle.seq_theory.specs.Graph.{IsReal}
 use Rattle.seq_theory.specs.Rows.{Row as TheoryRow, Event as TheoryEvent, enter, raise, cap, most_low, least_up, IsSound}

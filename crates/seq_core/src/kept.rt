@@ -1,16 +1,16 @@
 //! What an engine keeps of a group. Each number is worked out once, when the group is first asked for:
 //! greedy's cost, the bounds of the parts and the splitting tests take most of the time of a search, and
 //! a search asks for them again and again. What is kept is what working it out afresh would give.
-ghost use Rattle.std.specs.Prelude.{IfOk};
-ghost use Rattle.seq_theory.specs.Problem.{IsWithin};
+ghost use Rattle.std.specs.Prelude.{◌≡◌, ◌<◌, All, IfOk, map, vec_len};
+ghost use Rattle.seq_theory.specs.Problem.{IsWithin, splitting};
 ghost use Rattle.seq_inst.specs.Instances.{problem_of};
 ghost use Rattle.seq_inst.specs.Members.{members};
 ghost use Rattle.seq_core.specs.Numbered.{AreNumbers, KeepsNumbers};
-ghost use Rattle.seq_core.specs.KeptOf.{IsKeptOf};
+ghost use Rattle.seq_core.specs.KeptOf.{HasParts, IsKeptOf};
 
 use crate::numbers::Numbers;
 use seq_huff::Scratch;
-use seq_inst::{Group, Instance};
+use seq_inst::{Answer, Group, Instance, part, splits, weight_of};
 use std::alloc::{AllocError, Global};
 
 /// A test that splits a group, with the numbers of the part that passes it and the part that fails it.
@@ -32,8 +32,58 @@ pub struct Kept {
     pub splits: Vec<Split>,
 }
 
+/// The test with the numbers of the parts that it makes of the group.
+fn split_by(
+    scratch: &mut Scratch,
+    numbers: &mut Numbers,
+    inst: &Instance,
+    group: &Group,
+    test: u32,
+) -> Result<Split, AllocError>
+    requires numbers { AreNumbers (problem_of inst.now) numbers.old }
+    requires within { IsWithin (problem_of inst.now) (members group.now) }
+    requires there { test < vec_len inst.now.costs }
+    ensures numbers { AreNumbers (problem_of inst.now) numbers.new }
+    ensures keeps { KeepsNumbers numbers.old numbers.new }
+    ensures test { IfOk result (λ s. s.test ≡ test) }
+    ensures parts { IfOk result (HasParts (problem_of inst.now) numbers.new (members group.now)) }
+{
+    let pass_part = part(inst, group, test, Answer::Pass);
+    let pass = numbers.number_of(scratch, inst, &pass_part)?;
+    let fail_part = part(inst, group, test, Answer::Fail);
+    let fail = numbers.number_of(scratch, inst, &fail_part)?;
+    Ok(Split { test, pass, fail })
+}
+
+/// The tests that split the group, the lowest first.
+fn splits_of(
+    alloc: Global,
+    scratch: &mut Scratch,
+    numbers: &mut Numbers,
+    inst: &Instance,
+    group: &Group,
+) -> Result<Vec<Split>, AllocError>
+    requires numbers { AreNumbers (problem_of inst.now) numbers.old }
+    requires within { IsWithin (problem_of inst.now) (members group.now) }
+    ensures numbers { AreNumbers (problem_of inst.now) numbers.new }
+    ensures keeps { KeepsNumbers numbers.old numbers.new }
+    ensures tests { IfOk result (λ v. map (λ s. s.test) v.items ≡ splitting (problem_of inst.now) (members group.now)) }
+    ensures parts { IfOk result (λ v. All (HasParts (problem_of inst.now) numbers.new (members group.now)) v.items) }
+{
+    let tests = inst.costs.len() as u32;
+    let mut found = Vec::new(alloc);
+    for test in 0..tests {
+        if splits(inst, group, test) {
+            let split = split_by(scratch, numbers, inst, group, test)?;
+            found.push(split)?;
+        }
+    }
+    Ok(found)
+}
+
 impl Kept {
-    /// Works out what is kept of the group. The group and its parts get numbers where they have none.
+    /// Works out what is kept of the group. The group and its parts get numbers where they have none, and
+    /// so the bounds that greedy goes by are there before it is asked.
     pub fn of(
         alloc: Global,
         scratch: &mut Scratch,
@@ -47,11 +97,15 @@ impl Kept {
         ensures keeps { KeepsNumbers numbers.old numbers.new }
         ensures kept { IfOk result (IsKeptOf (problem_of inst.now) numbers.new (members group.now)) }
     {
-        let _ = alloc;
-        let _ = scratch;
-        let _ = numbers;
-        let _ = inst;
-        let _ = group;
-        Err(AllocError)
+        let number = numbers.number_of(scratch, inst, group)?;
+        let splits = splits_of(alloc, scratch, numbers, inst, group)?;
+        let greedy = numbers.greedy_of(scratch, inst, group)?;
+        Ok(Kept {
+            number,
+            weight: weight_of(inst, group),
+            bound: numbers.bound_at(number),
+            greedy,
+            splits,
+        })
     }
 }

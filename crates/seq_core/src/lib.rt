@@ -6,6 +6,7 @@
 #![tactic(auto)]
 
 mod event;
+mod greedy;
 mod kept;
 mod laws;
 mod machine;
@@ -17,12 +18,13 @@ mod slots;
 mod table;
 #[cfg(test)]
 mod tests;
+mod words;
 mod worth;
 
 pub use event::{Event, Illegal};
 pub use kept::{Kept, Split};
-pub use numbers::Numbers;
 pub use laws::{changes_keep, entering_helps, sound_rows_settle};
 pub use machine::Core;
+pub use numbers::Numbers;
 pub use places::Places;
 pub use settling::{lows, settle, vals};

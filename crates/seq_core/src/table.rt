@@ -16,8 +16,8 @@ ghost use Rattle.seq_core.specs.Changes.{change_row, new_row, raised, capped};
 ghost use Rattle.seq_core.specs.Sums.{capped_value, lesser};
 ghost use Rattle.seq_core.specs.Allowed.{IsMostLow, IsLeastUp};
 
-use crate::worth::Worth;
 use crate::places::Places;
+use crate::worth::Worth;
 use seq_huff::{Scratch, bound};
 use seq_inst::{Answer, Group, Instance, Row, is_leaf, part, splits};
 use std::alloc::{AllocError, Global};

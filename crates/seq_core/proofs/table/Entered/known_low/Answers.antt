@@ -1,4 +1,4 @@
-use Rattle.std.proofs.Common.{◌≡◌, ◌∙◌, ◌<◌, ◌≤◌, ap, sym, arith, subst, Some, None, length, get_or, max}
+use Rattle.std.proofs.Common.{◌≡◌, ◌∙◌, ◌<◌, ◌≤◌, ap, sym, arith, subst, length, get_or, max}
 use Rattle.std.proofs.lemmas.List.{get_or_read}
 use Rattle.seq_theory.specs.Rows.{known_low}
 use Rattle.seq_inst.specs.declared.outcome.Row.{Row}
@@ -7,9 +7,9 @@ use Rattle.seq_inst.specs.Instances.{problem_of}
 use Rattle.seq_huff.specs.Bounds.{greatest_cost}
 use Rattle.seq_huff.proofs.BoundFits.{bound-small}
 use Rattle.seq_core.specs.declared.worth.Worth.{Worth}
-use Rattle.seq_core.specs.RowsOf.{rows_of, place_in}
+use Rattle.seq_core.specs.RowsOf.{rows_of}
 use Rattle.seq_core.specs.Tables.{Table, IsTableOf}
-use Rattle.seq_core.proofs.TableLaws.{find-place, place-found, no_row, no_kept, length-kept, kept-at, row-among, known_low-found, known_low-absent, known_low-end}
+use Rattle.seq_core.proofs.TableLaws.{find-place, place-found, no_row, no_kept, kept-at, row-among, known_low-found, known_low-absent, known_low-end}
 use Rattle.seq_core.proofs.table.Entered.known_low.Goals as goal
 
 pub returns-then-is_leaf-clause-value : goal.returns-then-is_leaf-clause-value

@@ -1,11 +1,9 @@
-use Rattle.std.proofs.Common.{◌≡◌, ◌∷◌, ◌<◌, ◌∙◌, ap, sym, arith, subst, length, get_or, max}
+use Rattle.std.proofs.Common.{◌≡◌, ◌∷◌, ◌<◌, ◌∙◌, ap, sym, arith, subst, length, get_or}
 use Rattle.std.proofs.lemmas.List.{get_or_read}
-use Rattle.std.specs.Prelude.{map}
 use Rattle.std.specs.List.{filter_map}
 use Rattle.seq_theory.specs.Problem.{least_of, splitting}
-use Rattle.seq_theory.specs.Bound.{step_sum}
 use Rattle.seq_theory.specs.Graph.{step_value}
-use Rattle.seq_theory.specs.Rows.{known_low, known_up}
+use Rattle.seq_theory.specs.Rows.{known_up}
 use Rattle.seq_inst.specs.declared.outcome.Row.{Row}
 use Rattle.seq_inst.specs.Members.{members}
 use Rattle.seq_inst.specs.Instances.{problem_of}
@@ -13,7 +11,7 @@ use Rattle.seq_core.specs.declared.worth.Worth.{Worth}
 use Rattle.seq_core.specs.RowsOf.{rows_of}
 use Rattle.seq_core.specs.Tables.{Table}
 use Rattle.seq_core.proofs.TableLaws.{no_row, no_kept, read-at}
-use Rattle.seq_core.proofs.SumLaws.{allowed-low, allowed-up}
+use Rattle.seq_core.proofs.SumLaws.{allowed-up}
 use Rattle.seq_core.proofs.table.Entered.least_up.Goals as goal
 
 pub least_up_sum-requires-clause-within : goal.least_up_sum-requires-clause-within
