@@ -1,14 +1,13 @@
 -- Sound rows fit, each event that the rows allow keeps them sound, and an event is refused exactly where it is not allowed.
-use Rattle.std.proofs.Common.{◌≡◌, ℕ, zero, suc, ◌<◌, ◌≤◌, List, [], ◌∷◌, ◌++◌, length, get_or, refl, sym, ap, ◌∙◌, arith, inl, inr, subst, Option, Some, None, Result, Ok, Err}
+use Rattle.std.proofs.Common.{◌≡◌, ℕ, ◌<◌, ◌≤◌, List, [], ◌∷◌, length, refl, sym, ap, ◌∙◌, arith, inl, inr, subst, Option, Some, None, Result, Ok, Err}
 use Rattle.std.specs.Prelude.{Bool, true, false, cond, nat_lt, nat_le, slice_get, IsOk, OnOk}
-use Rattle.std.proofs.lemmas.Bool.{cases_Bool, cases_lt, lt-ltb, le-leb, lt-leb, ltb-true, leb-true, true≢false}
+use Rattle.std.proofs.lemmas.Bool.{lt-ltb, le-leb, ltb-true, leb-true, true≢false}
 use Rattle.seq_theory.specs.Problem.{Problem, IsSized, IsWithin}
 use Rattle.seq_theory.specs.Graph.{is_entered, IsReal}
 use Rattle.seq_theory.specs.Greedy.{greedy_cost}
-use Rattle.seq_theory.specs.Rows.{Row as TheoryRow, groups_of, IsRow, IsSound, IsAllowed, Event as TheoryEvent, enter, raise, cap, after, most_low, least_up}
+use Rattle.seq_theory.specs.Rows.{Row as TheoryRow, groups_of, IsRow, IsSound, IsAllowed, enter, raise, cap, after, most_low, least_up}
 use Rattle.seq_theory.proofs.RowLaws.{events-sound, none-sound, sound-bounds, wanted-within}
 use Rattle.seq_theory.proofs.GreedyLaws.{least-le-greedy}
-use Rattle.seq_inst.specs.declared.group.Group.{Group}
 use Rattle.seq_inst.specs.declared.instance.Instance.{Instance}
 use Rattle.seq_inst.specs.declared.outcome.Row.{Row}
 use Rattle.seq_inst.specs.Members.{members}
@@ -18,11 +17,11 @@ use Rattle.seq_huff.proofs.LeastBounds.{weighed}
 use Rattle.seq_core.specs.declared.event.Event.{Event}
 use Rattle.seq_core.specs.declared.event.Event.TheVariants.{Enter, Raise, Cap}
 use Rattle.seq_core.specs.declared.event.Illegal.{Illegal}
-use Rattle.seq_core.specs.declared.event.Illegal.TheVariants.{Repeated, Limit, NoPlace, TooHigh, TooLow}
-use Rattle.seq_core.specs.RowsOf.{row_of, rows_of, place_in, IsFit, AreFit}
+use Rattle.seq_core.specs.declared.event.Illegal.TheVariants.{Limit, TooHigh, TooLow}
+use Rattle.seq_core.specs.RowsOf.{row_of, rows_of, place_in, AreFit}
 use Rattle.seq_core.specs.Tables.{Table, IsTableOf}
 use Rattle.seq_core.specs.Events.{event_of, EntersReal, rows_after, enter_refusal, raise_refusal, cap_refusal, refusal, answer, IsCoreOf}
-use Rattle.seq_core.proofs.TableLaws.{no_row, rows_of-more, place-found, place-absent, found-entered, length-rows_of}
+use Rattle.seq_core.proofs.TableLaws.{rows_of-more, place-found, place-absent, found-entered}
 use Rattle.seq_core.proofs.ChangeLaws.{raised-rows, capped-rows}
 
 pub sized : (inst : Instance) → IsSized (problem_of inst)

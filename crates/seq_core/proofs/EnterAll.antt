@@ -1,22 +1,21 @@
 -- Distinct groups entered one after another: none has a place when its turn comes.
-use Rattle.std.proofs.Common.{◌≡◌, ℕ, zero, suc, ◌+◌, ◌<◌, ◌≤◌, List, [], ◌∷◌, ◌++◌, length, get_or, refl, sym, ap, ◌∙◌, arith, inl, inr, subst, Option, Some, None, take}
-use Rattle.std.specs.Prelude.{Bool, true, false, cond, map}
+use Rattle.std.proofs.Common.{◌≡◌, ℕ, zero, suc, ◌<◌, ◌≤◌, List, [], ◌∷◌, ◌++◌, length, refl, sym, ap, ◌∙◌, arith, inl, inr, subst, None, take}
+use Rattle.std.specs.Prelude.{true, false, map}
 use Rattle.std.specs.Option.{option_map}
-use Rattle.std.proofs.Math.Seq.{take-suc, take-length}
+use Rattle.std.proofs.Math.Seq.{take-suc}
 use Rattle.std.proofs.lemmas.Bool.{cases_Bool, true≢false, or_parts}
 use Rattle.std.proofs.lemmas.List.{get_or-map, length-map, map-append}
-use Rattle.seq_theory.specs.Problem.{Problem, IsWithin, is_end}
+use Rattle.seq_theory.specs.Problem.{Problem, is_end}
 use Rattle.seq_theory.specs.Graph.{same_group, is_entered}
 use Rattle.seq_theory.specs.Rows.{groups_of, AreDistinct}
 use Rattle.seq_theory.specs.Rows.{Row as TheoryRow}
 use Rattle.seq_theory.proofs.RowLaws.{same_group-true, same_group-refl}
-use Rattle.seq_inst.specs.declared.group.Group.{Group}
 use Rattle.seq_inst.specs.declared.outcome.Row.{Row}
 use Rattle.seq_inst.specs.Members.{members}
-use Rattle.seq_core.specs.RowsOf.{row_of, rows_of, place_in}
+use Rattle.seq_core.specs.RowsOf.{rows_of, place_in}
 use Rattle.seq_core.specs.Changes.{new_row}
 use Rattle.seq_core.specs.Tables.{Table, IsTableOf}
-use Rattle.seq_core.specs.Settled.{groups_in, AreGroups, settled_row, first_row, row_at, size_at, IsSettledTo}
+use Rattle.seq_core.specs.Settled.{groups_in, AreGroups, first_row, row_at, IsSettledTo}
 use Rattle.seq_core.proofs.TableLaws.{row-among}
 
 -- the rows of these groups, of which nothing is known

@@ -1,14 +1,12 @@
 -- A change of one row that keeps its group keeps the rows sound, where its new bounds are right for the entered groups.
-use Rattle.std.proofs.Common.{◌≡◌, ◌⊎◌, ℕ, zero, suc, ◌<◌, ◌≤◌, max, min, List, [], ◌∷◌, ◌++◌, length, refl, sym, ap, ◌∙◌, arith, inl, inr, subst, Option, Some, None}
-use Rattle.std.specs.Prelude.{true, false, slice_get}
-use Rattle.seq_theory.specs.Problem.{Problem, IsSized, AreTold}
-use Rattle.seq_theory.specs.Graph.{is_entered, low, val, IsReal}
-use Rattle.seq_theory.specs.Rows.{Row, groups_of, IsRow, AreDistinct, IsSound, enter, raise, cap, change_at, after}
+use Rattle.std.proofs.Common.{◌≡◌, ◌⊎◌, ℕ, zero, suc, ◌≤◌, max, min, List, [], ◌∷◌, length, refl, sym, ap, ◌∙◌, arith, inl, inr, subst, Option, Some}
+use Rattle.std.specs.Prelude.{slice_get}
+use Rattle.seq_theory.specs.Problem.{Problem}
+use Rattle.seq_theory.specs.Graph.{low, val, IsReal}
+use Rattle.seq_theory.specs.Rows.{Row, groups_of, IsRow, AreDistinct, IsSound, enter, change_at}
 use Rattle.seq_theory.proofs.LowLaws.{low-grows}
 use Rattle.seq_theory.proofs.ValLaws.{val-falls}
 use Rattle.seq_theory.proofs.RowLaws.{events-sound, wanted-within}
-use Rattle.seq_core.specs.RowsOf.{rows_of}
-use Rattle.seq_core.specs.Settled.{AreGroups}
 use Rattle.seq_core.specs.Laws.{EntersKeep, RaisesKeep, CapsKeep, LowGrows, ValFalls, SoundAreGroups}
 
 some-row : (a b : Row) (o : Option Row) → o ≡ Some a → o ≡ Some b → a ≡ b

@@ -1,5 +1,5 @@
 -- The groups that the tests enter are wanted.
-use Rattle.std.proofs.Common.{◌≡◌, ◌≤◌, ◌<◌, ℕ, List, [], ◌∷◌, refl, sym, ap, ◌∙◌, arith, subst, lit<, lit≤}
+use Rattle.std.proofs.Common.{◌≡◌, ◌≤◌, ◌<◌, ℕ, List, refl, sym, ap, ◌∙◌, arith, subst, lit<}
 use Rattle.std.specs.Prelude.{true, false}
 use Rattle.seq_theory.specs.Problem.{Problem, all_classes, is_end, splits, pass_part}
 use Rattle.seq_theory.specs.Bound.{bound, step_sum}

@@ -9,3 +9,6 @@ pub mod SettleSteps
 pub mod EnterAll
 pub mod EventLaws
 pub mod ExampleLaws
+pub mod NumberLaws
+pub mod ChoiceLaws
+pub mod KeptLaws

@@ -1,7 +1,7 @@
 -- The order of groups: two words differ first at the lowest bit of their exclusive or, and two groups at the first word
 -- that differs. The order is transitive, and no group stands before one with the same classes.
-use Rattle.std.proofs.Common.{◌≡◌, ◌≢◌, ℕ, ◌+◌, ◌-◌, ◌*◌, ◌/◌, ◌%◌, ◌^◌, ◌<◌, ◌≤◌, get_or, refl, sym, ap, ◌∙◌, arith, inl, inr, subst}
-use Rattle.std.specs.Prelude.{Bool, true, false, nat_eq, bit_xor, List, [], ◌∷◌, filter}
+use Rattle.std.proofs.Common.{◌≡◌, ◌≢◌, ℕ, ◌+◌, ◌-◌, ◌*◌, ◌/◌, ◌%◌, ◌^◌, ◌<◌, get_or, refl, sym, ap, ◌∙◌, arith, inl, inr, subst}
+use Rattle.std.specs.Prelude.{true, false, nat_eq, bit_xor, List, [], ◌∷◌, filter}
 use Rattle.std.specs.Int.{bit_at, trailing_zeros, w64}
 use Rattle.std.proofs.lemmas.Bool.{cases_Bool, cases_lt, cases_order, eq-eqb, ne_eqb, true≢false, false≢true, eqb-true, eqb-false}
 use Rattle.std.proofs.lemmas.Nat.{xor_lt}

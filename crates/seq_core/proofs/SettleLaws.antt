@@ -1,22 +1,20 @@
 -- Where the rows of all smaller groups are settled, what the parts of a group count is their low and their value over the
 -- entered groups; so the most to which the group may be raised is its low, and the least to which it may be capped its
 -- value.
-use Rattle.std.proofs.Common.{◌≡◌, ◌≢◌, ◌⊎◌, ℕ, zero, suc, ◌+◌, ◌*◌, ◌<◌, ◌≤◌, max, min, List, [], ◌∷◌, ◌++◌, length, get_or, refl, sym, ap, ◌∙◌, arith, inl, inr, subst, Option, Some, None, length-append, take}
-use Rattle.std.specs.Prelude.{Bool, true, false, cond, map, nat_eq}
+use Rattle.std.proofs.Common.{◌≡◌, ◌≢◌, ◌⊎◌, ℕ, ◌*◌, ◌<◌, ◌≤◌, max, List, ◌∷◌, length, refl, sym, ap, ◌∙◌, arith, inl, inr, subst, Option, Some, None}
+use Rattle.std.specs.Prelude.{true, false, cond, nat_eq}
 use Rattle.std.specs.List.{filter_map}
-use Rattle.std.proofs.lemmas.Bool.{cases_Bool, cases_lt, cases_order, true≢false, ne_eqb}
-use Rattle.seq_theory.specs.Problem.{Problem, IsIn, IsWithin, pass_part, fail_part, splits, splitting, weight_of, is_end, least_of}
+use Rattle.std.proofs.lemmas.Bool.{cases_Bool, cases_lt, cases_order, ne_eqb}
+use Rattle.seq_theory.specs.Problem.{IsWithin, pass_part, fail_part, splitting, weight_of, is_end, least_of}
 use Rattle.seq_theory.specs.Bound.{bound, step_sum}
 use Rattle.seq_theory.specs.Greedy.{greedy_cost}
-use Rattle.seq_theory.specs.Graph.{same_group, is_entered, low, val, step_value, sum_with}
+use Rattle.seq_theory.specs.Graph.{is_entered, low, val, step_value, sum_with}
 use Rattle.seq_theory.specs.Rows.{row_of as theory_row}
-use Rattle.seq_theory.specs.Rows.{no_value, groups_of, IsRow, AreDistinct, low_or, up_or, known_low, known_up, most_low, least_up}
-use Rattle.seq_theory.specs.Rows.{Row as TheoryRow}
+use Rattle.seq_theory.specs.Rows.{no_value, low_or, up_or, known_low, known_up, most_low, least_up}
 use Rattle.seq_theory.proofs.GroupLaws.{pass_part_smaller, fail_part_smaller}
 use Rattle.seq_theory.proofs.PartsRecursion.{map-agree, filter_map-agree, step_sum-agree, splitting-splits}
-use Rattle.seq_theory.proofs.LowLaws.{low-end, low-entered, low-other, bound-le-low, low-le-least}
+use Rattle.seq_theory.proofs.LowLaws.{low-end, low-entered, low-other, bound-le-low}
 use Rattle.seq_theory.proofs.ValLaws.{val-end, val-entered, val-other, least_of-first}
-use Rattle.seq_theory.proofs.GreedyLaws.{least-le-greedy}
 use Rattle.seq_inst.specs.declared.group.Group.{Group}
 use Rattle.seq_inst.specs.declared.instance.Instance.{Instance}
 use Rattle.seq_inst.specs.declared.outcome.Row.{Row}
@@ -24,13 +22,11 @@ use Rattle.seq_inst.specs.Members.{members}
 use Rattle.seq_inst.specs.Instances.{problem_of}
 use Rattle.seq_huff.specs.Bounds.{greatest_cost}
 use Rattle.seq_huff.proofs.GreedyCode.{greedy-small}
-use Rattle.seq_huff.proofs.LeastBounds.{weighed}
-use Rattle.seq_core.specs.declared.kept.Kept.{Kept}
-use Rattle.seq_core.specs.RowsOf.{row_of, rows_of, place_in, IsFit, AreFit}
-use Rattle.seq_core.specs.Changes.{new_row, change_row, raised, capped}
-use Rattle.seq_core.specs.Tables.{Table, AreKeptOf, IsTableOf}
-use Rattle.seq_core.specs.Settled.{groups_in, value_or, settled_row, first_row, row_at, size_at, IsSettledTo}
-use Rattle.seq_core.proofs.TableLaws.{no_row, place-found, place-absent, row-among, found-entered}
+use Rattle.seq_core.specs.RowsOf.{row_of, rows_of, place_in, IsFit}
+use Rattle.seq_core.specs.Changes.{new_row}
+use Rattle.seq_core.specs.Tables.{Table}
+use Rattle.seq_core.specs.Settled.{groups_in, value_or, settled_row, row_at, size_at, IsSettledTo}
+use Rattle.seq_core.proofs.TableLaws.{place-found, place-absent, row-among, found-entered}
 
 abbrev pub Turn : List Row → ℕ → ℕ → ℕ → Type 0
 Turn rows size place k = (size_at rows k < size) ⊎ ((size_at rows k ≡ size) × (k < place))

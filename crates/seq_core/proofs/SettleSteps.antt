@@ -1,12 +1,11 @@
 -- One row settled after another: the row whose turn it is gets its low and its value, and the others stay as they were.
-use Rattle.std.proofs.Common.{◌≡◌, ◌≢◌, ◌⊎◌, ℕ, zero, suc, ◌+◌, ◌<◌, ◌≤◌, max, min, List, [], ◌∷◌, ◌++◌, length, get_or, refl, sym, ap, ◌∙◌, arith, inl, inr, subst, Option, Some, None}
-use Rattle.std.specs.Prelude.{map, false, true, slice_get}
-use Rattle.std.proofs.lemmas.Bool.{cases_lt, cases_order, true≢false}
+use Rattle.std.proofs.Common.{◌≡◌, ◌≢◌, ℕ, zero, suc, ◌+◌, ◌<◌, ◌≤◌, max, min, List, [], ◌∷◌, length, refl, sym, ap, ◌∙◌, arith, inl, inr, subst}
+use Rattle.std.specs.Prelude.{map}
+use Rattle.std.proofs.lemmas.Bool.{cases_lt, cases_order}
 use Rattle.std.proofs.lemmas.List.{get_or-map, length-map}
-use Rattle.seq_theory.specs.Problem.{Problem, IsWithin, is_end}
+use Rattle.seq_theory.specs.Problem.{Problem, IsWithin}
 use Rattle.seq_theory.specs.Graph.{low, val}
-use Rattle.seq_theory.specs.Rows.{no_value, groups_of, most_low, least_up}
-use Rattle.seq_theory.specs.Rows.{Row as TheoryRow}
+use Rattle.seq_theory.specs.Rows.{no_value, most_low, least_up}
 use Rattle.seq_theory.proofs.LowLaws.{low-le-least}
 use Rattle.seq_theory.proofs.GreedyLaws.{least-le-greedy}
 use Rattle.seq_inst.specs.declared.group.Group.{Group}
@@ -18,14 +17,14 @@ use Rattle.seq_inst.proofs.MembersLaws.{length-members_below}
 use Rattle.seq_huff.specs.Bounds.{greatest_cost}
 use Rattle.seq_huff.proofs.GreedyCode.{greedy-small}
 use Rattle.seq_huff.proofs.LeastBounds.{weighed}
-use Rattle.seq_core.specs.RowsOf.{row_of, rows_of, IsFit, AreFit}
-use Rattle.seq_core.specs.Changes.{new_row, change_row, raised, capped}
-use Rattle.seq_core.specs.Tables.{Table, AreKeptOf, IsTableOf}
+use Rattle.seq_core.specs.RowsOf.{row_of, rows_of, AreFit}
+use Rattle.seq_core.specs.Changes.{change_row, raised, capped}
+use Rattle.seq_core.specs.Tables.{Table}
 use Rattle.seq_core.specs.Allowed.{IsMostLow, IsLeastUp}
 use Rattle.seq_core.specs.Settled.{groups_in, value_or, settled_row, settled_rows, first_row, row_at, size_at, IsSettledTo}
 use Rattle.seq_core.proofs.TableLaws.{get-row}
 use Rattle.seq_core.proofs.ChangeLaws.{kept-change, fit-change, length-change}
-use Rattle.seq_core.proofs.SettleLaws.{Turn, NoTurn, turn-at, most_low-settled, least_up-settled}
+use Rattle.seq_core.proofs.SettleLaws.{turn-at, most_low-settled, least_up-settled}
 
 change-same : (rows : List Row) (k : ℕ) (f : Row → Row) → k < length rows → row_at (change_row rows k f) k ≡ f (row_at rows k)
 change-same [] k f lt = absurd (let bad : ⊥ = omega arith in bad)

@@ -1,12 +1,11 @@
 -- Sums over a group's tests: the sum of one test fits a word, and the least of greedy's cost and the sums of ups is the
 -- same where sums stop at the greatest word, since greedy's cost is no greater than that.
-use Rattle.std.proofs.Common.{◌≡◌, ℕ, zero, suc, ◌+◌, ◌*◌, ◌^◌, ◌<◌, ◌≤◌, max, min, List, [], ◌∷◌, ◌++◌, length, get_or, refl, sym, ap, ◌∙◌, arith, subst, Option, Some, None}
+use Rattle.std.proofs.Common.{◌≡◌, ℕ, ◌*◌, ◌<◌, ◌≤◌, max, min, List, [], ◌∷◌, ◌++◌, length, get_or, refl, sym, ap, ◌∙◌, arith, Option, Some, None}
 use Rattle.std.specs.Prelude.{map}
 use Rattle.std.specs.List.{filter_map, cons_option}
 use Rattle.seq_theory.specs.Problem.{Problem, IsWithin, weight_of, least_of, splitting}
 use Rattle.seq_theory.specs.Bound.{step_sum, bound}
-use Rattle.seq_theory.specs.Greedy.{greedy_cost}
-use Rattle.seq_theory.specs.Graph.{step_value, sum_with}
+use Rattle.seq_theory.specs.Graph.{step_value}
 use Rattle.seq_theory.specs.Rows.{no_value, known_low, known_up, most_low, least_up}
 use Rattle.seq_theory.specs.Rows.{Row as TheoryRow}
 use Rattle.seq_inst.specs.declared.group.Group.{Group}
@@ -18,9 +17,9 @@ use Rattle.seq_inst.proofs.WithinLaws.{light}
 use Rattle.seq_huff.proofs.BoundFits.{product-le}
 use Rattle.seq_theory.proofs.ValLaws.{least_of-first}
 use Rattle.seq_theory.proofs.LeastOfLaws.{lesser as theory_lesser}
-use Rattle.seq_core.specs.declared.kept.Kept.{Kept}
+use Rattle.seq_core.specs.declared.worth.Worth.{Worth}
 use Rattle.seq_core.specs.RowsOf.{row_of, rows_of}
-use Rattle.seq_core.specs.Tables.{AreKeptOf}
+use Rattle.seq_core.specs.Tables.{AreWorthsOf}
 use Rattle.seq_core.specs.Allowed.{IsMostLow, IsLeastUp}
 use Rattle.seq_core.specs.Sums.{lesser, capped_value}
 use Rattle.seq_core.proofs.TableLaws.{no_row, no_kept, get-row, kept-at}
@@ -42,7 +41,7 @@ lesser-same (Some m) n = refl
 some-row : (a b : TheoryRow) (o : Option TheoryRow) → o ≡ Some a → o ≡ Some b → a ≡ b
 some-row a b o e f = cc
 
-pub allowed-low : (p : Problem) (rows : List Row) (kept : List Kept) (place bound_kept least n : ℕ) → AreKeptOf p rows kept → place < length rows → bound_kept ≡ (get_or kept place no_kept).bound
+pub allowed-low : (p : Problem) (rows : List Row) (kept : List Worth) (place bound_kept least n : ℕ) → AreWorthsOf p rows kept → place < length rows → bound_kept ≡ (get_or kept place no_kept).bound
     → least ≡ least_of (map (step_sum p (known_low p (rows_of rows)) (members (get_or rows place no_row).group)) (splitting p (members (get_or rows place no_row).group)))
     → n ≡ max bound_kept least → IsMostLow p rows place n
 allowed-low p rows kept place b least n a there be le ne r at =
@@ -53,7 +52,7 @@ allowed-low p rows kept place b least n a there be le ne r at =
     let value : n ≡ most_low p (rows_of rows) g = ne ∙ ap (λ x. max x least) bound_is ∙ ap (max (bound p g)) le in
     value ∙ ap (λ (x : TheoryRow). most_low p (rows_of rows) x.group) is
 
-pub allowed-up : (p : Problem) (rows : List Row) (kept : List Kept) (place greedy n : ℕ) → AreKeptOf p rows kept → place < length rows → greedy ≡ (get_or kept place no_kept).greedy
+pub allowed-up : (p : Problem) (rows : List Row) (kept : List Worth) (place greedy n : ℕ) → AreWorthsOf p rows kept → place < length rows → greedy ≡ (get_or kept place no_kept).greedy
     → n ≡ least_of (greedy ∷ filter_map (step_value p (known_up p (rows_of rows)) (members (get_or rows place no_row).group)) (splitting p (members (get_or rows place no_row).group)))
     → IsLeastUp p rows place n
 allowed-up p rows kept place greedy n a there ge ne r at =

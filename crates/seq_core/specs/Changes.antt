@@ -1,5 +1,5 @@
 -- Changes of rows.
-use Rattle.std.specs.Prelude.{ℕ, max, min, List, [], ◌∷◌, ◌++◌}
+use Rattle.std.specs.Prelude.{ℕ, max, min, List, [], ◌∷◌}
 use Rattle.std.proofs.Common.{zero, suc}
 use Rattle.seq_theory.specs.Rows.{no_value}
 use Rattle.seq_inst.specs.declared.group.Group.{Group}

@@ -1,5 +1,5 @@
 -- The events of the code as the theory's, and when one is refused.
-use Rattle.std.specs.Prelude.{◌≡◌, ℕ, cond, nat_lt, nat_le, List, [], ◌∷◌, ◌++◌, length, Option, Some, None, Result, Ok, Err, slice_get}
+use Rattle.std.specs.Prelude.{ℕ, cond, nat_lt, nat_le, List, [], ◌∷◌, ◌++◌, length, Option, Some, None, Result, Ok, Err, slice_get}
 use Rattle.seq_theory.specs.Problem.{Problem}
 use Rattle.seq_theory.specs.Graph.{IsReal}
 use Rattle.seq_theory.specs.Rows.{Row as TheoryRow, Event as TheoryEvent, enter, raise, cap, most_low, least_up, IsSound}
@@ -11,7 +11,7 @@ use Rattle.seq_core.specs.declared.event.Illegal.{Illegal}
 use Rattle.seq_core.specs.declared.event.Illegal.TheVariants.{Repeated, Limit, NoPlace, TooHigh, TooLow}
 use Rattle.seq_core.specs.RowsOf.{rows_of, place_in}
 use Rattle.seq_core.specs.Changes.{change_row, new_row, raised, capped}
-use Rattle.seq_core.specs.Tables.{Table, AreKeptOf}
+use Rattle.seq_core.specs.Tables.{Table, AreWorthsOf}
 
 abbrev pub event_of : Event → TheoryEvent
 event_of (Enter group) = enter (members group)
@@ -57,5 +57,5 @@ answer (Some illegal) = Err illegal
 
 -- the core is of this problem: its rows are sound, and what it keeps of their groups was worked out in it
 pub record IsCoreOf (p : Problem) (t : Table) : Type 0 where
-  pub kept : AreKeptOf p t.rows t.kept
+  pub kept : AreWorthsOf p t.rows t.kept
   pub sound : IsSound p t.room (rows_of t.rows)

@@ -1,5 +1,5 @@
 -- What is proved of rows and of the groups that were entered, for engines that change the rows without asking the core.
-use Rattle.std.specs.Prelude.{◌≡◌, ℕ, ◌<◌, ◌≤◌, true, false, List, length, Option, Some, slice_get}
+use Rattle.std.specs.Prelude.{◌≡◌, ℕ, ◌<◌, ◌≤◌, true, false, List, length, Some, slice_get}
 use Rattle.seq_theory.specs.Problem.{Problem, IsSized, AreTold}
 use Rattle.seq_theory.specs.Graph.{is_entered, low, val, IsReal}
 use Rattle.seq_theory.specs.Rows.{groups_of, IsSound, enter, raise, cap, after}

@@ -2,6 +2,10 @@ pub mod GroupOrder
 pub mod Mapping
 pub mod Ordered
 pub mod RowsOf
+pub mod WorthOf
+pub mod Words
+pub mod Numbered
+pub mod Choice
 pub mod KeptOf
 pub mod Changes
 pub mod Tables

@@ -1,7 +1,7 @@
 -- The rows of the code, as the theory's rows.
 use Rattle.std.specs.Prelude.{◌≡◌, ℕ, cond, false, ◌≤◌, List, [], ◌∷◌, map, Option, Some, None}
 use Rattle.std.specs.Option.{option_map}
-use Rattle.std.proofs.Common.{zero, suc}
+use Rattle.std.proofs.Common.{suc}
 use Rattle.seq_theory.specs.Problem.{Problem, IsWithin, is_end}
 use Rattle.seq_theory.specs.Graph.{same_group}
 use Rattle.seq_theory.specs.Rows.{Row as TheoryRow, IsRow}

@@ -6,9 +6,11 @@
 #![tactic(auto)]
 
 mod event;
+mod greedy;
 mod kept;
 mod laws;
 mod machine;
+mod numbers;
 mod order;
 mod places;
 mod settling;
@@ -16,10 +18,13 @@ mod slots;
 mod table;
 #[cfg(test)]
 mod tests;
+mod words;
+mod worth;
 
 pub use event::{Event, Illegal};
-pub use kept::Kept;
+pub use kept::{Kept, Split};
 pub use laws::{changes_keep, entering_helps, sound_rows_settle};
 pub use machine::Core;
+pub use numbers::Numbers;
 pub use places::Places;
 pub use settling::{lows, settle, vals};

@@ -16,8 +16,8 @@ ghost use Rattle.seq_core.specs.Changes.{change_row, new_row, raised, capped};
 ghost use Rattle.seq_core.specs.Sums.{capped_value, lesser};
 ghost use Rattle.seq_core.specs.Allowed.{IsMostLow, IsLeastUp};
 
-use crate::kept::Kept;
 use crate::places::Places;
+use crate::worth::Worth;
 use seq_huff::{Scratch, bound};
 use seq_inst::{Answer, Group, Instance, Row, is_leaf, part, splits};
 use std::alloc::{AllocError, Global};
@@ -27,7 +27,7 @@ use std::marker::Model;
 #[derive(Drop)]
 pub(crate) struct Entered {
     rows: Vec<Row>,
-    kept: Vec<Kept>,
+    kept: Vec<Worth>,
     index: Places,
 }
 
@@ -119,7 +119,7 @@ impl Entered {
         ensures room { self.new.room ≡ self.old.room }
         ensures rows { self.new.rows ≡ self.old.rows ++ new_row group.now ∷ [] }
     {
-        let kept = Kept::of(scratch, inst, group);
+        let kept = Worth::of(scratch, inst, group);
         let place = self.rows.len() as u32;
         self.index.add(group, place);
         let row = Row {

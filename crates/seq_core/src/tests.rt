@@ -3,7 +3,7 @@ ghost use Rattle.std.specs.Prelude.{◌≡◌, IfOk};
 ghost use Rattle.seq_inst.specs.Instances.{problem_of};
 ghost use Rattle.seq_core.specs.Examples.{two_faults as two_faults_problem, star as star_problem};
 
-use crate::{Core, Event, Illegal, Places, lows, settle, vals};
+use crate::{Core, Event, Illegal, Kept, Numbers, Places, Split, lows, settle, vals};
 use seq_huff::Scratch;
 use seq_inst::{Answer, Group, Instance, part, root};
 use std::alloc::{AllocError, Global};
@@ -53,6 +53,36 @@ fn groups_are_found_at_their_places(rt: HostRuntime) -> Result<(), Fail> {
     assert_eq!(rt; places.find(&first), Some(7));
     assert_eq!(rt; places.find(&second), Some(0));
     assert_eq!(rt; places.find(&third), Some(9));
+    Ok(())
+}
+
+#[test]
+fn what_is_kept_of_two_faults(rt: HostRuntime) -> Result<(), Fail> {
+    let alloc = rt.alloc();
+    let mut scratch = Scratch::new();
+    let inst = two_faults(alloc)?;
+    let all = root(&inst);
+    let passing = part(&inst, &all, 0, Answer::Pass);
+    let mut numbers = Numbers::new(alloc);
+    let kept = Kept::of(alloc, &mut scratch, &mut numbers, &inst, &all)?;
+    assert_eq!(rt; (kept.number, kept.weight), (0, 10));
+    assert_eq!(rt; (kept.bound, kept.greedy), (18, 27));
+    let first = Split {
+        test: 0,
+        pass: 1,
+        fail: 2,
+    };
+    let second = Split {
+        test: 1,
+        pass: 3,
+        fail: 4,
+    };
+    assert_eq!(rt; kept.splits.as_slice(), [first, second].as_slice());
+    assert_eq!(rt; numbers.len(), 5);
+    assert!(rt; numbers.group_at(1) == passing);
+    assert_eq!(rt; numbers.bound_at(1), 7);
+    assert_eq!(rt; numbers.number_of(&mut scratch, &inst, &passing)?, 1);
+    assert_eq!(rt; numbers.known_greedy(&mut scratch, &inst, &passing), 7);
     Ok(())
 }
 

@@ -1,4 +1,4 @@
-use Rattle.std.proofs.Common.{◌≡◌, ◌≢◌, ◌^◌, ◌<◌, ◌*◌, ◌∙◌, arith, get_or, rules, subst, sym, refl}
+use Rattle.std.proofs.Common.{◌≡◌, ◌^◌, ◌<◌, ◌*◌, ◌∙◌, arith, get_or, rules, subst, sym}
 use Rattle.seq_core.proofs.OrderLaws.{SameBelow, same-word, same-all, differ-inside, differ-less, differ-greater}
 use Rattle.seq_core.proofs.order.compare.Goals as goal
 

@@ -1,4 +1,4 @@
-use Rattle.std.proofs.Common.{◌≡◌, ◌<◌, ◌∙◌, sym, ap, arith, subst, Option, None, length}
+use Rattle.std.proofs.Common.{◌≡◌, ◌<◌, ◌∙◌, sym, arith, subst, None, length}
 use Rattle.seq_theory.specs.Rows.{IsSound}
 use Rattle.seq_theory.proofs.RowLaws.{wanted-within}
 use Rattle.seq_inst.specs.Members.{members}

@@ -1,8 +1,8 @@
-use Rattle.std.proofs.Common.{◌≡◌, ◌<◌, ◌≤◌, ◌∙◌, sym, ap, arith, subst, refl, Option, Some, None, Err, length, get_or}
+use Rattle.std.proofs.Common.{◌≡◌, ◌<◌, ◌≤◌, ◌∙◌, sym, ap, arith, subst, refl, Some, None, Err, length, get_or}
 use Rattle.std.specs.Prelude.{cond, nat_le, true, false, slice_get}
 use Rattle.std.proofs.lemmas.Bool.{le-leb, lt-leb}
 use Rattle.std.proofs.lemmas.Option.{slice_get_past}
-use Rattle.seq_theory.specs.Rows.{IsSound, most_low}
+use Rattle.seq_theory.specs.Rows.{most_low}
 use Rattle.seq_inst.specs.Instances.{problem_of}
 use Rattle.seq_core.specs.declared.event.Event.TheVariants.{Raise}
 use Rattle.seq_core.specs.declared.event.Illegal.TheVariants.{NoPlace, TooHigh}

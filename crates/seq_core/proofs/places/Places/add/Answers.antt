@@ -5,7 +5,7 @@ use Rattle.seq_core.specs.Ordered.{StandsAt, GoesAt, IsOrdered, placed_from}
 use Rattle.std.specs.Prelude.{insert}
 use Rattle.std.proofs.Common.{length-append}
 use Rattle.seq_core.specs.declared.slots.Entry.{Entry}
-use Rattle.seq_core.proofs.MappingLaws.{stands-place, goes-place, ordered-more, length-placed}
+use Rattle.seq_core.proofs.MappingLaws.{stands-place, ordered-more, length-placed}
 use Rattle.seq_core.proofs.places.Places.add.Goals as goal
 
 pub unreachable-requires : goal.unreachable-requires

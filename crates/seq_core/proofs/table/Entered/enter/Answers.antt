@@ -1,10 +1,9 @@
-use Rattle.std.proofs.Common.{◌≡◌, ◌+◌, ◌∙◌, ◌<◌, ◌≤◌, ◌++◌, ◌∷◌, [], ap, sym, arith, subst, Some, None, length, get_or, rules, length-append}
-use Rattle.seq_inst.specs.declared.outcome.Row.{Row}
+use Rattle.std.proofs.Common.{◌≡◌, ◌+◌, ◌∙◌, ◌<◌, ◌++◌, ◌∷◌, [], ap, sym, arith, subst, length, rules, length-append}
 use Rattle.seq_inst.specs.Members.{members}
 use Rattle.seq_inst.specs.Instances.{problem_of}
 use Rattle.seq_core.specs.Mapping.{Mapping, place_of}
 use Rattle.seq_core.specs.RowsOf.{rows_of, place_in, AreFit}
-use Rattle.seq_core.specs.Tables.{Table, IsTableOf, numbered, AreKeptOf}
+use Rattle.seq_core.specs.Tables.{Table, IsTableOf, numbered, AreWorthsOf}
 use Rattle.seq_core.specs.Changes.{new_row}
 use Rattle.seq_core.proofs.TableLaws.{numbered-place, numbered-more, length-numbered, kept-more, fit-more}
 use Rattle.seq_core.proofs.table.Entered.enter.Goals as goal
@@ -65,6 +64,6 @@ returns-clause-of c =
     let kept_pushed : c.push-2.new.self.items ≡ kept ++ c.of-kept.result ∷ [] = search rules in
     let of : IsTableOf p (record { room = c.self.inside.index.room; rows = rows; kept = kept }) = subst (IsTableOf p) (sym c.self.view_is) c.requires.of in
     record {
-      kept = subst (λ l. AreKeptOf p l c.push-2.new.self.items) (sym pushed) (subst (AreKeptOf p (rows ++ new_row g ∷ [])) (sym kept_pushed) (kept-more p rows kept (new_row g) c.of-kept.result of.kept c.of-kept.ensures));
+      kept = subst (λ l. AreWorthsOf p l c.push-2.new.self.items) (sym pushed) (subst (AreWorthsOf p (rows ++ new_row g ∷ [])) (sym kept_pushed) (kept-more p rows kept (new_row g) c.of-kept.result of.kept c.of-kept.ensures));
       fit = subst (λ l. AreFit p (rows_of l)) (sym pushed) (fit-more p rows (new_row g) of.fit (record { within = c.requires.within; goals = c.requires.goals; small = omega arith }));
     }

@@ -1,4 +1,4 @@
-use Rattle.std.proofs.Common.{◌≡◌, ◌∙◌, ◌<◌, ◌≤◌, ap, sym, arith, subst, Some, None, length, get_or, max}
+use Rattle.std.proofs.Common.{◌≡◌, ◌∙◌, ◌<◌, ◌≤◌, ap, sym, arith, subst, length, get_or, max}
 use Rattle.std.proofs.lemmas.List.{get_or_read}
 use Rattle.seq_theory.specs.Rows.{known_low}
 use Rattle.seq_inst.specs.declared.outcome.Row.{Row}
@@ -6,10 +6,10 @@ use Rattle.seq_inst.specs.Members.{members}
 use Rattle.seq_inst.specs.Instances.{problem_of}
 use Rattle.seq_huff.specs.Bounds.{greatest_cost}
 use Rattle.seq_huff.proofs.BoundFits.{bound-small}
-use Rattle.seq_core.specs.declared.kept.Kept.{Kept}
-use Rattle.seq_core.specs.RowsOf.{rows_of, place_in}
+use Rattle.seq_core.specs.declared.worth.Worth.{Worth}
+use Rattle.seq_core.specs.RowsOf.{rows_of}
 use Rattle.seq_core.specs.Tables.{Table, IsTableOf}
-use Rattle.seq_core.proofs.TableLaws.{find-place, place-found, no_row, no_kept, length-kept, kept-at, row-among, known_low-found, known_low-absent, known_low-end}
+use Rattle.seq_core.proofs.TableLaws.{find-place, place-found, no_row, no_kept, kept-at, row-among, known_low-found, known_low-absent, known_low-end}
 use Rattle.seq_core.proofs.table.Entered.known_low.Goals as goal
 
 pub returns-then-is_leaf-clause-value : goal.returns-then-is_leaf-clause-value
@@ -49,7 +49,7 @@ returns-in-Some-clause-value c =
     let row : c.index.result.now ≡ get_or rows c.in-Some.place no_row = get_or_read rows c.in-Some.place c.index.result.now there c.index.ensures no_row in
     let keep : c.index-in-Some.result.now ≡ get_or kept c.in-Some.place no_kept = get_or_read kept c.in-Some.place c.index-in-Some.result.now kept_there c.index-in-Some.ensures no_kept in
     let value = known_low-found p rows kept g c.in-Some.place of.kept (sym c.is_leaf.ensures ∙ c.if-is_leaf.false) at in
-    c.max.ensures ∙ ap (λ (r : Row). max r.low c.index-in-Some.result.now.bound) row ∙ ap (λ (k : Kept). max (get_or rows c.in-Some.place no_row).low k.bound) keep ∙ sym value
+    c.max.ensures ∙ ap (λ (r : Row). max r.low c.index-in-Some.result.now.bound) row ∙ ap (λ (k : Worth). max (get_or rows c.in-Some.place no_row).low k.bound) keep ∙ sym value
     ∙ ap (λ (t : Table). known_low p (rows_of t.rows) g) c.self.view_is
 
 pub returns-in-Some-clause-fits : goal.returns-in-Some-clause-fits
@@ -68,7 +68,7 @@ returns-in-Some-clause-fits c =
     let keep : c.index-in-Some.result.now ≡ get_or kept c.in-Some.place no_kept = get_or_read kept c.in-Some.place c.index-in-Some.result.now kept_there c.index-in-Some.ensures no_kept in
     let fit = of.fit _ (row-among rows c.in-Some.place there) in
     let low : c.index.result.now.low ≤ greatest_cost = subst (λ (r : Row). r.low ≤ greatest_cost) (sym row) fit.small in
-    let is : c.index-in-Some.result.now.bound ≡ (get_or kept c.in-Some.place no_kept).bound = ap (λ (k : Kept). k.bound) keep in
+    let is : c.index-in-Some.result.now.bound ≡ (get_or kept c.in-Some.place no_kept).bound = ap (λ (k : Worth). k.bound) keep in
     let b = (kept-at p rows kept c.in-Some.place of.kept there).bound in
     let s = bound-small c.args.inst.now (get_or rows c.in-Some.place no_row).group fit.within in
     let m = c.max.ensures in

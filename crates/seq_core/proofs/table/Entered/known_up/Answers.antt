@@ -1,12 +1,12 @@
-use Rattle.std.proofs.Common.{◌≡◌, ◌∙◌, ◌<◌, ◌≤◌, ap, sym, arith, subst, Option, Some, None, length, get_or}
-use Rattle.std.specs.Prelude.{cond, nat_eq, true, false}
+use Rattle.std.proofs.Common.{◌≡◌, ◌∙◌, ap, sym, arith, Some, None, get_or}
+use Rattle.std.specs.Prelude.{cond}
 use Rattle.std.proofs.lemmas.Bool.{eq-eqb, ne_eqb}
 use Rattle.std.proofs.lemmas.List.{get_or_read}
 use Rattle.seq_theory.specs.Rows.{known_up, no_value}
 use Rattle.seq_inst.specs.declared.outcome.Row.{Row}
 use Rattle.seq_inst.specs.Members.{members}
 use Rattle.seq_inst.specs.Instances.{problem_of}
-use Rattle.seq_core.specs.RowsOf.{rows_of, place_in}
+use Rattle.seq_core.specs.RowsOf.{rows_of}
 use Rattle.seq_core.specs.Tables.{Table}
 use Rattle.seq_core.proofs.TableLaws.{find-place, place-found, no_row, known_up-found, known_up-absent, known_up-end}
 use Rattle.seq_core.proofs.table.Entered.known_up.Goals as goal

@@ -1,6 +1,6 @@
-use Rattle.std.proofs.Common.{◌≡◌, ◌∷◌, [], ◌≤◌, ◌∙◌, sym, ap, arith, subst, refl, Some, None, ◌+◌}
+use Rattle.std.proofs.Common.{◌≡◌, ◌∷◌, ◌≤◌, ◌∙◌, sym, ap, arith, ◌+◌}
 use Rattle.std.specs.List.{filter_map}
-use Rattle.seq_theory.specs.Problem.{splits, splitting, least_of}
+use Rattle.seq_theory.specs.Problem.{splits, least_of}
 use Rattle.seq_theory.specs.Graph.{step_value}
 use Rattle.seq_theory.specs.Rows.{known_up, no_value}
 use Rattle.seq_inst.specs.Members.{members}

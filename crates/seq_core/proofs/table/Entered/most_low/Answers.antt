@@ -1,19 +1,17 @@
-use Rattle.std.proofs.Common.{◌≡◌, ◌∷◌, ◌<◌, ◌∙◌, ap, sym, arith, subst, length, get_or, max}
+use Rattle.std.proofs.Common.{◌≡◌, ◌<◌, ◌∙◌, ap, sym, arith, subst, length, get_or}
 use Rattle.std.proofs.lemmas.List.{get_or_read}
 use Rattle.std.specs.Prelude.{map}
-use Rattle.std.specs.List.{filter_map}
 use Rattle.seq_theory.specs.Problem.{least_of, splitting}
 use Rattle.seq_theory.specs.Bound.{step_sum}
-use Rattle.seq_theory.specs.Graph.{step_value}
-use Rattle.seq_theory.specs.Rows.{known_low, known_up}
+use Rattle.seq_theory.specs.Rows.{known_low}
 use Rattle.seq_inst.specs.declared.outcome.Row.{Row}
 use Rattle.seq_inst.specs.Members.{members}
 use Rattle.seq_inst.specs.Instances.{problem_of}
-use Rattle.seq_core.specs.declared.kept.Kept.{Kept}
+use Rattle.seq_core.specs.declared.worth.Worth.{Worth}
 use Rattle.seq_core.specs.RowsOf.{rows_of}
 use Rattle.seq_core.specs.Tables.{Table}
 use Rattle.seq_core.proofs.TableLaws.{no_row, no_kept, read-at}
-use Rattle.seq_core.proofs.SumLaws.{allowed-low, allowed-up}
+use Rattle.seq_core.proofs.SumLaws.{allowed-low}
 use Rattle.seq_core.proofs.table.Entered.most_low.Goals as goal
 
 pub least_low_sum-least-requires-clause-within : goal.least_low_sum-least-requires-clause-within
@@ -52,4 +50,4 @@ returns c =
     let keep : c.index-kept.result.now ≡ get_or t.kept c.args.place no_kept = get_or_read c.self.inside.kept.items c.args.place c.index-kept.result.now kept_there c.index-kept.ensures no_kept ∙ ap (λ (t : Table). get_or t.kept c.args.place no_kept) c.self.view_is in
     let least : c.least_low_sum-least.result ≡ least_of (map (step_sum p (known_low p (rows_of t.rows)) (members (get_or t.rows c.args.place no_row).group)) (splitting p (members (get_or t.rows c.args.place no_row).group))) =
     c.least_low_sum-least.ensures ∙ ap (λ (r : Row). least_of (map (step_sum p (known_low p (rows_of t.rows)) (members r.group)) (splitting p (members r.group)))) row in
-    allowed-low p t.rows t.kept c.args.place c.index-kept.result.now.bound c.least_low_sum-least.result _ c.requires.of.kept there (ap (λ (k : Kept). k.bound) keep) least c.max.ensures
+    allowed-low p t.rows t.kept c.args.place c.index-kept.result.now.bound c.least_low_sum-least.result _ c.requires.of.kept there (ap (λ (k : Worth). k.bound) keep) least c.max.ensures

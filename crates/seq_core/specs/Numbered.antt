@@ -1,0 +1,28 @@
+-- Groups by number, with what was worked out of each.
+use Rattle.std.specs.Prelude.{◌≡◌, ℕ, List, length, map, Option, Some, slice_get}
+use Rattle.seq_theory.specs.Problem.{Problem, IsWithin}
+use Rattle.seq_theory.specs.Bound.{bound}
+use Rattle.seq_theory.specs.Greedy.{greedy_cost}
+use Rattle.seq_theory.specs.Rows.{AreDistinct}
+
+-- the groups, as lists of classes, by number; their bounds; and what greedy costs over each, where that was worked out
+pub record Numbered : Type 0 where
+  pub groups : List (List ℕ)
+  pub bounds : List ℕ
+  pub costs : List (Option ℕ)
+
+-- the group has this number
+abbrev pub HasNumber : Numbered → List ℕ → ℕ → Type 0
+HasNumber v group n = slice_get v.groups n ≡ Some group
+
+-- no group has two numbers, and what is kept of each is what working it out afresh gives
+pub record AreNumbers (p : Problem) (v : Numbered) : Type 0 where
+  pub distinct : AreDistinct v.groups
+  pub within : (group : List ℕ) (n : ℕ) → HasNumber v group n → IsWithin p group
+  pub bounds : v.bounds ≡ map (bound p) v.groups
+  pub as_many : length v.costs ≡ length v.groups
+  pub costs : (group : List ℕ) (n cost : ℕ) → HasNumber v group n → slice_get v.costs n ≡ Some (Some cost) → cost ≡ greedy_cost p group
+
+-- each group that had a number has it still
+abbrev pub KeepsNumbers : Numbered → Numbered → Type 0
+KeepsNumbers old new = (group : List ℕ) (n : ℕ) → HasNumber old group n → HasNumber new group n
