@@ -4,7 +4,7 @@ use Rattle.std.specs.Prelude.{Bool, true, false, cond, nat_le, map}
 use Rattle.std.specs.List.{filter_map, cons_option}
 use Rattle.seq_theory.specs.Problem.{Problem, IsIn, IsWithin, AreTold, splits, splitting, weight_of, is_end, least_of}
 use Rattle.seq_theory.specs.Bound.{bound, step_sum}
-use Rattle.seq_theory.specs.Greedy.{first_least, greedy_test}
+use Rattle.seq_theory.specs.Greedy.{first_least}
 use Rattle.seq_theory.proofs.LeastOfLaws.{first_least-last, first_least-is}
 use Rattle.seq_theory.proofs.LeastLaws.{step_reaches, IsIn-count_up}
 use Rattle.seq_theory.proofs.GroupLaws.{IsIn-filter}
@@ -14,6 +14,7 @@ use Rattle.seq_inst.specs.Members.{members}
 use Rattle.seq_inst.specs.Instances.{problem_of}
 use Rattle.seq_inst.proofs.WithinLaws.{light}
 use Rattle.seq_huff.proofs.BoundFits.{product-le}
+use Rattle.seq_core.specs.declared.kept.Split.{Split}
 use Rattle.seq_solo.specs.declared.choice.Chosen.{Chosen}
 use Rattle.seq_solo.specs.Choice.{lesser_choice, lesser_value}
 
@@ -21,39 +22,39 @@ use Rattle.seq_solo.specs.Choice.{lesser_choice, lesser_value}
 pub record IsChoice (f : ℕ → ℕ) (x : ℕ) (xs : List ℕ) (o : Option Chosen) : Type 0 where
   pub chosen : Chosen
   pub is : o ≡ Some chosen
-  pub test_is : chosen.test ≡ first_least f (x ∷ xs)
-  pub sum_is : chosen.sum ≡ f chosen.test
+  pub test_is : chosen.split.test ≡ first_least f (x ∷ xs)
+  pub sum_is : chosen.sum ≡ f chosen.split.test
 
 abbrev pub ChosenSoFar : (ℕ → ℕ) → List ℕ → Option Chosen → Type 0
 ChosenSoFar f [] o = o ≡ None
 ChosenSoFar f (x ∷ xs) o = IsChoice f x xs o
 
-pub chosen-more : (f : ℕ → ℕ) (xs more : List ℕ) (t n : ℕ) (o : Option Chosen) → ChosenSoFar f xs o → more ≡ xs ++ t ∷ [] → n ≡ f t → ChosenSoFar f more (Some (lesser_choice o t n))
+pub chosen-more : (f : ℕ → ℕ) (xs more : List ℕ) (t : Split) (n : ℕ) (o : Option Chosen) → ChosenSoFar f xs o → more ≡ xs ++ t.test ∷ [] → n ≡ f t.test → ChosenSoFar f more (Some (lesser_choice o t n))
 chosen-more f [] more t n o s e v = subst (λ l. ChosenSoFar f l (Some (lesser_choice o t n))) (sym e)
-    (record { chosen = record { test = t; sum = n }; is = ap (λ p. Some (lesser_choice p t n)) s; test_is = refl; sum_is = v })
+    (record { chosen = record { split = t; sum = n }; is = ap (λ p. Some (lesser_choice p t n)) s; test_is = refl; sum_is = v })
 chosen-more f (x ∷ xs) more t n o s e v = subst (λ l. ChosenSoFar f l (Some (lesser_choice o t n))) (sym e)
     (record {
       chosen = lesser_choice (Some s.chosen) t n;
       is = ap (λ p. Some (lesser_choice p t n)) s.is;
-      test_is = tests (nat_le (s.chosen).sum n) ∙ ap (λ b. cond b (first_least f (x ∷ xs)) t) same ∙ sym (first_least-last f x t xs);
+      test_is = tests (nat_le (s.chosen).sum n) ∙ ap (λ b. cond b (first_least f (x ∷ xs)) t.test) same ∙ sym (first_least-last f x t.test xs);
       sum_is = sums (nat_le (s.chosen).sum n);
     })
   where
-    same : nat_le (s.chosen).sum n ≡ nat_le (f (first_least f (x ∷ xs))) (f t)
+    same : nat_le (s.chosen).sum n ≡ nat_le (f (first_least f (x ∷ xs))) (f t.test)
     same = ap (λ a. nat_le a n) (s.sum_is ∙ ap f s.test_is) ∙ ap (nat_le (f (first_least f (x ∷ xs)))) v
 
-    tests : (b : Bool) → (let c : Chosen = cond b s.chosen (record { test = t; sum = n }) in c.test) ≡ cond b (first_least f (x ∷ xs)) t
+    tests : (b : Bool) → (let c : Chosen = cond b s.chosen (record { split = t; sum = n }) in c.split.test) ≡ cond b (first_least f (x ∷ xs)) t.test
     tests true = s.test_is
     tests false = refl
 
-    sums : (b : Bool) → (let c : Chosen = cond b s.chosen (record { test = t; sum = n }) in c.sum) ≡ f (let c : Chosen = cond b s.chosen (record { test = t; sum = n }) in c.test)
+    sums : (b : Bool) → (let c : Chosen = cond b s.chosen (record { split = t; sum = n }) in c.sum) ≡ f (let c : Chosen = cond b s.chosen (record { split = t; sum = n }) in c.split.test)
     sums true = s.sum_is
     sums false = v
 
 -- at the end it is the first of all
 pub record IsLeastTest (f : ℕ → ℕ) (xs : List ℕ) (c : Chosen) : Type 0 where
-  pub test : c.test ≡ first_least f xs
-  pub sum : c.sum ≡ f c.test
+  pub test : c.split.test ≡ first_least f xs
+  pub sum : c.sum ≡ f c.split.test
 
 some_same : (a b : Chosen) → Some a ≡ Some b → a ≡ b
 some_same a b e = cc
@@ -63,9 +64,23 @@ chosen-all f [] c s = absurd (let bad : ⊥ = cc in bad)
 chosen-all f (x ∷ xs) c s =
     let e : c ≡ s.chosen = some_same c s.chosen s.is in
     record {
-      test = ap (λ (z : Chosen). z.test) e ∙ s.test_is;
-      sum = ap (λ (z : Chosen). z.sum) e ∙ s.sum_is ∙ ap (λ (z : Chosen). f z.test) (sym e);
+      test = ap (λ (z : Chosen). z.split.test) e ∙ s.test_is;
+      sum = ap (λ (z : Chosen). z.sum) e ∙ s.sum_is ∙ ap (λ (z : Chosen). f z.split.test) (sym e);
     }
+
+-- it is the new one or was there before
+pub chosen-either : (P : Split → Type 0) (o : Option Chosen) (s : Split) (n : ℕ) (c : Chosen) → ((x : Chosen) → o ≡ Some x → P x.split) → P s → c ≡ lesser_choice o s n → (x : Chosen) → Some c ≡ Some x → P x.split
+chosen-either P o s n c before here is x e =
+    let same : c ≡ x = some_same c x e in
+    subst (λ (y : Chosen). P y.split) (sym is ∙ same) (go o before)
+  where
+    go : (o : Option Chosen) → ((x : Chosen) → o ≡ Some x → P x.split) → (let y : Chosen = lesser_choice o s n in P y.split)
+    go None before = here
+    go (Some y) before = by (nat_le y.sum n)
+      where
+        by : (b : Bool) → (let z : Chosen = cond b y (record { split = s; sum = n }) in P z.split)
+        by true = before y refl
+        by false = here
 
 -- ---- some test splits a group of two goals ----
 
@@ -143,8 +158,3 @@ sum-fits inst g cost weight test within there c w =
     let most = (inst.valid.costs test there).1 in
     let l = light inst g within in
     product-le cost weight 1000000 4097000000 (omega arith) (omega arith)
-
--- the greedy test is the first of least sum over bounds
-pub greedy_test-is : (p : Problem) (group : List ℕ) (t : ℕ) → t ≡ first_least (step_sum p (bound p) group) (splitting p group) → t ≡ greedy_test p group
-unfolding greedy_test
-greedy_test-is p group t e = e

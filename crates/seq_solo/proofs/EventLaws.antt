@@ -1,16 +1,15 @@
 -- The code's events are the theory's, and so keep the rows sound: raising and capping a row changes one row of the list, and
 -- entering adds one.
-use Rattle.std.proofs.Common.{◌≡◌, ℕ, zero, suc, ◌+◌, ◌*◌, ◌<◌, ◌≤◌, max, min, List, [], ◌∷◌, ◌++◌, length, set, refl, sym, ap, ◌∙◌, arith, inl, inr, subst, Some, None, length-append}
+use Rattle.std.proofs.Common.{◌≡◌, ℕ, zero, suc, ◌*◌, ◌<◌, ◌≤◌, max, min, List, [], ◌∷◌, ◌++◌, length, set, refl, sym, ap, ◌∙◌, arith, inl, inr, subst, Some, length-append}
 use Rattle.std.specs.Prelude.{false, cond, slice_get}
-use Rattle.std.proofs.lemmas.Bool.{cases_Bool, or_parts}
+use Rattle.std.proofs.lemmas.Bool.{cases_Bool}
 use Rattle.std.proofs.lemmas.List.{get_or-set_same, map-append}
 use Rattle.std.proofs.lemmas.List.Elements.{All-set, All-push}
 use Rattle.std.proofs.Math.ListN.{length-set}
 use Rattle.seq_theory.specs.Problem.{Problem, is_end, splitting, least_of, pass_part, fail_part, weight_of}
-use Rattle.seq_theory.specs.Bound.{bound, step_sum}
-use Rattle.seq_theory.specs.Greedy.{greedy_cost, first_least}
+use Rattle.seq_theory.specs.Greedy.{greedy_cost}
 use Rattle.seq_theory.specs.Graph.{same_group, is_entered, step_value, sum_with, IsReal}
-use Rattle.seq_theory.specs.Rows.{Row as PlainRow, no_value, groups_of, IsSound, row_of, known_low, up_or, known_up, most_low, least_up, enter, raise, cap, after}
+use Rattle.seq_theory.specs.Rows.{Row as PlainRow, no_value, groups_of, IsSound, row_of, up_or, known_up, most_low, least_up, enter, raise, cap, after}
 use Rattle.seq_theory.proofs.RowLaws.{events-sound}
 use Rattle.seq_theory.proofs.PartsRecursion.{filter_map-agree}
 use Rattle.seq_huff.specs.Bounds.{greatest_cost}
@@ -21,11 +20,8 @@ use Rattle.seq_inst.specs.declared.outcome.Row.{Row}
 use Rattle.seq_inst.specs.Members.{members}
 use Rattle.seq_inst.specs.Instances.{problem_of}
 use Rattle.seq_core.specs.RowsOf.{row_of as row_from, rows_of as rows_from}
-use Rattle.seq_core.specs.Mapping.{Placed, place_of}
-use Rattle.seq_core.specs.Tables.{numbered}
-use Rattle.seq_solo.specs.Known.{IsKnown, HasSmallUp, no_row, row_at, group_at, raised_at, capped_at, Narrows, IsClosedAt}
-use Rattle.seq_solo.proofs.KnownLaws.{sized, row-real, row-within, row-bounds}
-use Rattle.seq_solo.proofs.ChoiceLaws.{least_test-first, most_low-is}
+use Rattle.seq_solo.specs.Known.{AreRows, HasSmallUp, no_row, row_at, group_at, raised_at, capped_at, Narrows, IsClosedAt}
+use Rattle.seq_solo.proofs.KnownLaws.{sized, row-bounds}
 
 -- ---- lists of rows ----
 
@@ -49,12 +45,6 @@ pub row-get : (rows : List Row) (k : ℕ) → k < length rows → slice_get (row
 row-get [] k lt = absurd (let bad : ⊥ = omega arith in bad)
 row-get (r ∷ rest) zero lt = refl
 row-get (r ∷ rest) (suc k) lt = row-get rest k (omega arith)
-
--- the map of places looks at groups alone
-placed-set : (n : ℕ) (rows : List Row) (k : ℕ) (x : Row) → k < length rows → x.group ≡ group_at rows k → numbered n (set rows k x) ≡ numbered n rows
-placed-set n [] k x lt e = refl
-placed-set n (r ∷ rest) zero x lt e = ap (λ (g : Group). record { group = members g; place = n } ∷ numbered (suc n) rest) e
-placed-set n (r ∷ rest) (suc k) x lt e = ap (λ l. record { group = members r.group; place = n } ∷ l) (placed-set (suc n) rest k x (omega arith) e)
 
 -- ---- narrower rows ----
 
@@ -116,38 +106,19 @@ module _ (p : Problem) where
     ups = s.ups;
   }
 
-  -- a map without the group
-  place-absent : (n : ℕ) (rows : List Row) (group : List ℕ) → is_entered (groups_of (rows_from rows)) group ≡ false → place_of (numbered n rows) group ≡ None
-  place-absent n [] group e = refl
-  place-absent n (r ∷ rest) group e = let s = or_parts (same_group group (members r.group)) (is_entered (groups_of (rows_from rest)) group) e in rw s.0 (place-absent (suc n) rest group s.1)
-
-  pub known-absent : (rows : List Row) (placed : List Placed) (group : List ℕ) → IsKnown p rows placed → is_entered (groups_of (rows_from rows)) group ≡ false → place_of placed group ≡ None
-  known-absent rows placed group known e = ap (λ l. place_of l group) known.placed_is ∙ place-absent 0 rows group e
-
 length-from : (rows : List Row) → length (rows_from rows) ≡ length rows
 length-from [] = refl
 length-from (r ∷ rest) = ap suc (length-from rest)
 
-length-placed : (n : ℕ) (rows : List Row) → length (numbered n rows) ≡ length rows
-length-placed n [] = refl
-length-placed n (r ∷ rest) = ap suc (length-placed (suc n) rest)
-
-pub known-length : (p : Problem) (rows : List Row) (placed : List Placed) → IsKnown p rows placed → length placed ≡ length rows
-known-length p rows placed known = ap length known.placed_is ∙ length-placed 0 rows
-
-placed-last : (n m : ℕ) (rows : List Row) (r : Row) → m ≡ n + length rows → numbered n rows ++ record { group = members r.group; place = m } ∷ [] ≡ numbered n (rows ++ r ∷ [])
-placed-last n m [] r e = (let same : m ≡ n = omega arith in ap (λ k. record { group = members r.group; place = k } ∷ []) same)
-placed-last n m (s ∷ rest) r e = ap (λ l. record { group = members s.group; place = n } ∷ l) (placed-last (suc n) m rest r (omega arith))
-
 -- ---- refreshing one row ----
 
 -- what the code owes where it raises a row to low, and then caps it to up
-pub record IsRefreshed (p : Problem) (old new : List Row) (placed : List Placed) (k : ℕ) : Type 0 where
-  pub known : IsKnown p new placed
+pub record IsRefreshed (p : Problem) (old new : List Row) (k : ℕ) : Type 0 where
+  pub known : AreRows p new
   pub narrows : Narrows old new
   pub closes : least_up p (rows_from old) (members (group_at old k)) ≤ most_low p (rows_from old) (members (group_at old k)) → IsClosedAt new k
 
-module _ (inst : Instance) (rows : List Row) (placed : List Placed) (k low up : ℕ) (known : IsKnown (problem_of inst) rows placed) (lt : k < length rows)
+module _ (inst : Instance) (rows : List Row) (k low up : ℕ) (known : AreRows (problem_of inst) rows) (lt : k < length rows)
     (low_is : low ≡ most_low (problem_of inst) (rows_from rows) (members (group_at rows k)))
     (up_is : up ≡ least_up (problem_of inst) (rows_from rows) (members (group_at rows k)))
     (small : up ≤ greatest_cost) where
@@ -183,33 +154,32 @@ module _ (inst : Instance) (rows : List Row) (placed : List Placed) (k low up : 
   capped-long : length (capped_at (raised_at rows k low) k up) ≡ length rows
   capped-long = length-set (raised_at rows k low) k _ ∙ raised-long
 
-  capped-known : IsKnown (problem_of inst) (capped_at (raised_at rows k low) k up) placed
+  capped-known : AreRows (problem_of inst) (capped_at (raised_at rows k low) k up)
   capped-known =
       let lt2 : k < length (raised_at rows k low) = (let l = raised-long in omega arith) in
       record {
         sound = subst (λ n. IsSound (problem_of inst) n (rows_from (capped_at (raised_at rows k low) k up))) (sym capped-long) capped-sound;
         small = All-set HasSmallUp (raised_at rows k low) k _ (inr (let m : min (row_at (raised_at rows k low) k).up up ≤ greatest_cost = omega arith in m)) (All-set HasSmallUp rows k _ (known.small k no_row lt) known.small);
-        placed_is = known.placed_is ∙ sym (placed-set 0 (raised_at rows k low) k _ lt2 refl ∙ placed-set 0 rows k _ lt refl);
       }
 
-  pub is-refreshed : (new : List Row) → new ≡ capped_at (raised_at rows k low) k up → IsRefreshed (problem_of inst) rows new placed k
-  is-refreshed new is = subst (λ l. IsRefreshed (problem_of inst) rows l placed k) (sym is)
+  pub is-refreshed : (new : List Row) → new ≡ capped_at (raised_at rows k low) k up → IsRefreshed (problem_of inst) rows new k
+  is-refreshed new is = subst (λ l. IsRefreshed (problem_of inst) rows l k) (sym is)
       (let lt2 : k < length (raised_at rows k low) = (let l = raised-long in omega arith) in
       record {
         known = capped-known;
         narrows = Narrows-trans rows (raised_at rows k low) (capped_at (raised_at rows k low) k up) (Narrows-set rows k _ lt refl (omega arith) (omega arith)) (Narrows-set (raised_at rows k low) k _ lt2 refl (omega arith) (omega arith));
         closes = λ le.
             let lt3 : k < length (capped_at (raised_at rows k low) k up) = (let l = capped-long in omega arith) in
-            let b = row-bounds (problem_of inst) (capped_at (raised_at rows k low) k up) placed capped-known (weighed inst) inst.valid.told k lt3 in
+            let b = row-bounds (problem_of inst) (capped_at (raised_at rows k low) k up) capped-known (weighed inst) inst.valid.told k lt3 in
             let between : (row_at (capped_at (raised_at rows k low) k up) k).low ≤ (row_at (capped_at (raised_at rows k low) k up) k).up = (let b0 = b.0 in let b1 = b.1 in omega arith) in
             subst (λ (r : Row). r.low ≡ r.up) (sym capped-row) (let both = subst (λ (r : Row). r.low ≤ r.up) capped-row between in omega arith);
       })
 
 -- ---- entering a group ----
 
-pub entered-known : (inst : Instance) (rows : List Row) (placed : List Placed) (g : Group) (place : ℕ) → IsKnown (problem_of inst) rows placed → IsReal (problem_of inst) (members g) → is_entered (groups_of (rows_from rows)) (members g) ≡ false → place ≡ length rows
-    → IsKnown (problem_of inst) (rows ++ record { group = g; low = 0; up = no_value } ∷ []) (placed ++ record { group = members g; place = place } ∷ [])
-entered-known inst rows placed g place known real new at =
+pub entered-known : (inst : Instance) (rows : List Row) (g : Group) → AreRows (problem_of inst) rows → IsReal (problem_of inst) (members g) → is_entered (groups_of (rows_from rows)) (members g) ≡ false
+    → AreRows (problem_of inst) (rows ++ record { group = g; low = 0; up = no_value } ∷ [])
+entered-known inst rows g known real new =
     let p = problem_of inst in
     let row : Row = record { group = g; low = 0; up = no_value } in
     let long = length-append rows (row ∷ []) in
@@ -219,20 +189,12 @@ entered-known inst rows placed g place known real new at =
           (events-sound p (length (rows ++ row ∷ [])) (rows_from rows) (enter (members g) ∷ []) (sized inst) inst.valid.told (sound-more p (length rows) (length (rows ++ row ∷ [])) (rows_from rows) (omega arith) known.sound)
           ((real, new, omega arith), tt));
       small = All-push HasSmallUp rows row known.small (inl refl);
-      placed_is = ap (λ l. l ++ record { group = members g; place = place } ∷ []) known.placed_is ∙ placed-last 0 place rows row (omega arith);
     }
 
--- in the words of the code: the row is raised to the larger of its bound and the least sum, and capped by the least up
-pub refresh-holds : (inst : Instance) (rows raised new : List Row) (placed : List Placed) (k test sum b low up : ℕ) → IsKnown (problem_of inst) rows placed → k < length rows
-    → test ≡ first_least (step_sum (problem_of inst) (known_low (problem_of inst) (rows_from rows)) (members (group_at rows k))) (splitting (problem_of inst) (members (group_at rows k)))
-    → sum ≡ step_sum (problem_of inst) (known_low (problem_of inst) (rows_from rows)) (members (group_at rows k)) test
-    → b ≡ bound (problem_of inst) (members (group_at rows k)) → low ≡ max b sum
+-- in the words of the code
+pub refresh-holds : (inst : Instance) (rows raised new : List Row) (k low up : ℕ) → AreRows (problem_of inst) rows → k < length rows
+    → low ≡ most_low (problem_of inst) (rows_from rows) (members (group_at rows k))
     → up ≡ least_up (problem_of inst) (rows_from rows) (members (group_at rows k)) → up ≤ greatest_cost
-    → raised ≡ raised_at rows k low → new ≡ capped_at raised k up → IsRefreshed (problem_of inst) rows new placed k
-refresh-holds inst rows raised new placed k test sum b low up known lt test_is sum_is bound_is low_is up_is small raised_is new_is =
-    let p = problem_of inst in
-    let g = members (group_at rows k) in
-    let within = row-within p rows placed known k lt in
-    let more = (row-real p rows placed known k lt).goals in
-    let first = least_test-first p (step_sum p (known_low p (rows_from rows)) g) g test inst.valid.told within more test_is in
-    is-refreshed inst rows placed k low up known lt (low_is ∙ most_low-is p (known_low p (rows_from rows)) g test b sum bound_is sum_is first) up_is small new (new_is ∙ ap (λ l. capped_at l k up) raised_is)
+    → raised ≡ raised_at rows k low → new ≡ capped_at raised k up → IsRefreshed (problem_of inst) rows new k
+refresh-holds inst rows raised new k low up known lt low_is up_is small raised_is new_is =
+    is-refreshed inst rows k low up known lt low_is up_is small new (new_is ∙ ap (λ l. capped_at l k up) raised_is)

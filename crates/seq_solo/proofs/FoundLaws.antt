@@ -16,38 +16,29 @@ use Rattle.seq_inst.specs.declared.outcome.Row.{Row}
 use Rattle.seq_inst.specs.Members.{members}
 use Rattle.seq_inst.specs.Instances.{problem_of}
 use Rattle.seq_core.specs.RowsOf.{row_of as row_from, rows_of as rows_from}
-use Rattle.seq_core.specs.Mapping.{Placed}
 use Rattle.seq_core.specs.Settled.{groups_in}
 use Rattle.seq_finish.specs.Entered.{MayStop}
 use Rattle.seq_finish.proofs.OutcomeLaws.{row-among, row-entered}
-use Rattle.seq_solo.specs.Known.{IsKnown, no_row, row_at, group_at, Narrows, IsClosedAt}
+use Rattle.seq_solo.specs.Known.{AreRows, no_row, row_at, group_at, Narrows, IsClosedAt}
 use Rattle.seq_solo.specs.Walks.{HasMoved, IsStopped, HasTurned}
 use Rattle.seq_solo.specs.Found.{BeginsWithAll, IsSolved, IsFull, HasEnded}
 use Rattle.seq_solo.proofs.KnownLaws.{row-real, row-within}
 use Rattle.seq_solo.proofs.EventLaws.{length-Narrows, group-Narrows}
 
 -- a walk under way: the rows are known, the first is that of all classes, and there are no more than the limit allows
-pub record IsWalking (p : Problem) (limit : ℕ) (rows : List Row) (placed : List Placed) (room : ℕ) : Type 0 where
-  pub known : IsKnown p rows placed
+pub record IsWalking (p : Problem) (limit : ℕ) (rows : List Row) : Type 0 where
+  pub known : AreRows p rows
   pub few : length rows ≤ limit
   pub some : 1 ≤ length rows
   pub first : members (group_at rows 0) ≡ all_classes p
-  pub room_is : room ≡ limit
 
 -- ---- beginning ----
-
-pub none-known : (p : Problem) (rows : List Row) (placed : List Placed) → rows ≡ [] → placed ≡ [] → IsKnown p rows placed
-none-known p rows placed er ep = subst (λ l. IsKnown p l placed) (sym er) (record {
-  sound = none-sound p 0;
-  small = λ k d lt. absurd (let bad : ⊥ = omega arith in bad);
-  placed_is = ep;
-})
 
 pub root-real : (p : Problem) (g : Group) → members g ≡ all_classes p → is_end p (members g) ≡ false → IsReal p (members g)
 root-real p g e goals = record { wanted = subst (IsWanted p) (sym e) root; goals = goals }
 
-pub begun : (p : Problem) (limit : ℕ) (g : Group) (rows new : List Row) (placed : List Placed) (room : ℕ) → 1 ≤ limit → members g ≡ all_classes p → rows ≡ [] → IsKnown p new placed → Narrows (rows ++ record { group = g; low = 0; up = no_value } ∷ []) new → room ≡ limit → IsWalking p limit new placed room
-begun p limit g rows new placed room some e none known n room_is =
+pub begun : (p : Problem) (limit : ℕ) (g : Group) (rows new : List Row) → 1 ≤ limit → members g ≡ all_classes p → rows ≡ [] → AreRows p new → Narrows (rows ++ record { group = g; low = 0; up = no_value } ∷ []) new → IsWalking p limit new
+begun p limit g rows new some e none known n =
     let row : Row = record { group = g; low = 0; up = no_value } in
     let n1 : Narrows (row ∷ []) new = subst (λ l. Narrows (l ++ row ∷ []) new) none n in
     let long = length-Narrows (row ∷ []) new n1 in
@@ -56,47 +47,45 @@ begun p limit g rows new placed room some e none known n room_is =
       few = omega arith;
       some = omega arith;
       first = ap members (group-Narrows (row ∷ []) new 0 n1 (omega arith)) ∙ e;
-      room_is = room_is;
     }
 
 -- ---- going on ----
 
-pub goes-on : (p : Problem) (limit : ℕ) (old new : List Row) (placed1 placed : List Placed) (room1 room : ℕ) → IsWalking p limit old placed1 room1 → HasMoved p limit old new placed → room ≡ room1 → IsWalking p limit new placed room
-goes-on p limit old new placed1 placed room1 room w m e =
+pub goes-on : (p : Problem) (limit : ℕ) (old new : List Row) → IsWalking p limit old → HasMoved p limit old new → IsWalking p limit new
+goes-on p limit old new w m =
     let some = w.some in
     let k = m.keeps 0 (omega arith) in
     let k0 = k.0 in
     record {
-      known = m.known;
+      known = m.rows_are;
       few = m.few;
       some = omega arith;
       first = ap members k.1 ∙ w.first;
-      room_is = e ∙ w.room_is;
     }
 
 -- ---- ending ----
 
-sound-more : (p : Problem) (limit : ℕ) (rows : List Row) (placed : List Placed) → IsKnown p rows placed → length rows ≤ limit → IsSound p limit (rows_from rows)
-sound-more p limit rows placed known le = let s = known.sound in let few = s.few in record { few = omega arith; distinct = s.distinct; real = s.real; lows = s.lows; ups = s.ups }
+sound-more : (p : Problem) (limit : ℕ) (rows : List Row) → AreRows p rows → length rows ≤ limit → IsSound p limit (rows_from rows)
+sound-more p limit rows known le = let s = known.sound in let few = s.few in record { few = omega arith; distinct = s.distinct; real = s.real; lows = s.lows; ups = s.ups }
 
-pub walking-sound : (p : Problem) (limit : ℕ) (rows : List Row) (placed : List Placed) (room : ℕ) → IsWalking p limit rows placed room → IsSound p limit (rows_from rows)
-walking-sound p limit rows placed room w = sound-more p limit rows placed w.known w.few
+pub walking-sound : (p : Problem) (limit : ℕ) (rows : List Row) → IsWalking p limit rows → IsSound p limit (rows_from rows)
+walking-sound p limit rows w = sound-more p limit rows w.known w.few
 
-pub walking-begins : (p : Problem) (limit : ℕ) (rows : List Row) (placed : List Placed) (room : ℕ) → is_end p (all_classes p) ≡ false → IsWalking p limit rows placed room → BeginsWithAll p rows
-walking-begins p limit rows placed room more w = record {
+pub walking-begins : (p : Problem) (limit : ℕ) (rows : List Row) → is_end p (all_classes p) ≡ false → IsWalking p limit rows → BeginsWithAll p rows
+walking-begins p limit rows more w = record {
   some = λ e. w.some;
   first = λ e. w.first;
   none = λ e. absurd (let bad : false ≡ true = sym more ∙ e in let b : ⊥ = cc in b);
 }
 
-closed-enough : (inst : Instance) (rows : List Row) (placed : List Placed) → IsKnown (problem_of inst) rows placed → (k : ℕ) → k < length rows → IsClosedAt rows k
+closed-enough : (inst : Instance) (rows : List Row) → AreRows (problem_of inst) rows → (k : ℕ) → k < length rows → IsClosedAt rows k
     → val (problem_of inst) (groups_of (rows_from rows)) (members (group_at rows k)) ≡ Some (low (problem_of inst) (groups_of (rows_from rows)) (members (group_at rows k)))
-closed-enough inst rows placed known k lt closed =
+closed-enough inst rows known k lt closed =
     let p = problem_of inst in
     let g = members (group_at rows k) in
     let entered = groups_of (rows_from rows) in
-    let real = row-real p rows placed known k lt in
-    let within = row-within p rows placed known k lt in
+    let real = row-real p rows known k lt in
+    let within = row-within p rows known k lt in
     let value = val-entered p entered g real.goals (row-entered rows k no_row lt) in
     let below = known.sound.lows (row_from (row_at rows k)) (row-among rows k no_row lt) in
     let above = known.sound.ups (row_from (row_at rows k)) (row-among rows k no_row lt) _ value in
@@ -104,13 +93,13 @@ closed-enough inst rows placed known k lt closed =
     let right = least-le-val p entered g _ inst.valid.told within value in
     value ∙ ap (λ n. Some n) (omega arith)
 
-pub solved : (inst : Instance) (limit : ℕ) (rows : List Row) (placed : List Placed) (room : ℕ) → IsWalking (problem_of inst) limit rows placed room → (row_at rows 0).low ≡ (row_at rows 0).up → IsSolved (problem_of inst) rows
-solved inst limit rows placed room w closed =
+pub solved : (inst : Instance) (limit : ℕ) (rows : List Row) → IsWalking (problem_of inst) limit rows → (row_at rows 0).low ≡ (row_at rows 0).up → IsSolved (problem_of inst) rows
+solved inst limit rows w closed =
     let p = problem_of inst in
     let some = w.some in
     record {
       closed = λ e. closed;
-      enough = subst (λ g. val p (groups_of (rows_from rows)) g ≡ Some (low p (groups_of (rows_from rows)) g)) w.first (closed-enough inst rows placed w.known 0 (omega arith) closed);
+      enough = subst (λ g. val p (groups_of (rows_from rows)) g ≡ Some (low p (groups_of (rows_from rows)) g)) w.first (closed-enough inst rows w.known 0 (omega arith) closed);
     }
 
 pub full : (p : Problem) (limit : ℕ) (old rows : List Row) (missed : Group) → (row_at old 0).low ≢ (row_at old 0).up → IsStopped p limit old rows missed → IsFull p limit rows missed
@@ -158,5 +147,5 @@ closed-read rows a b some ea eb e =
     sym (ap (λ (r : Row). r.low) fa) ∙ e ∙ ap (λ (r : Row). r.up) fb
 
 -- a turn that stopped left the rows as they were
-pub stopped-same : (p : Problem) (limit : ℕ) (old new : List Row) (placed : List Placed) (o : Option Group) (missed : Group) → HasTurned p limit old new placed o → o ≡ Some missed → new ≡ old
-stopped-same p limit old new placed o missed t e = let s : IsStopped p limit old new missed = subst (HasTurned p limit old new placed) e t in s.same
+pub stopped-same : (p : Problem) (limit : ℕ) (old new : List Row) (o : Option Group) (missed : Group) → HasTurned p limit old new o → o ≡ Some missed → new ≡ old
+stopped-same p limit old new o missed t e = let s : IsStopped p limit old new missed = subst (HasTurned p limit old new) e t in s.same

@@ -1,28 +1,29 @@
 -- What sound rows say of a part: what it counts for a low is at most its least cost, and what it counts for an up is small.
-use Rattle.std.proofs.Common.{◌≡◌, ℕ, ◌<◌, ◌≤◌, ◌⊎◌, max, List, [], ◌∷◌, length, refl, sym, ap, ◌∙◌, arith, inl, inr, subst, Option, Some, None}
+use Rattle.std.proofs.Common.{◌≡◌, ℕ, ◌*◌, ◌<◌, ◌≤◌, ◌⊎◌, List, [], ◌∷◌, length, refl, sym, ap, ◌∙◌, arith, inl, inr, subst, Option, Some, None}
 use Rattle.std.specs.Prelude.{Bool, true, false, cond}
-use Rattle.std.proofs.lemmas.Bool.{cases_Bool, ne_eqb}
-use Rattle.seq_theory.specs.Problem.{Problem, IsWithin, IsWeighed, IsSized, AreTold, is_end}
+use Rattle.std.proofs.lemmas.Bool.{cases_Bool}
+use Rattle.seq_theory.specs.Problem.{Problem, IsWithin, IsWeighed, IsSized, AreTold, is_end, fails, pass_part, fail_part, weight_of}
 use Rattle.seq_theory.specs.Bound.{bound}
 use Rattle.seq_theory.specs.Graph.{same_group, low, IsReal}
-use Rattle.seq_theory.specs.Rows.{Row as PlainRow, no_value, groups_of, IsRow, row_of, known_low, known_up}
+use Rattle.seq_theory.specs.Rows.{Row as PlainRow, groups_of, IsRow, row_of, known_low}
 use Rattle.seq_theory.proofs.LeastLaws.{least}
-use Rattle.seq_theory.proofs.GreedyLaws.{least-le-greedy, bound-end}
+use Rattle.seq_theory.proofs.GroupLaws.{length-two_filters, weight_of-parts}
+use Rattle.seq_theory.proofs.GreedyLaws.{part-within, greedy-cheap, least-le-greedy, bound-end}
 use Rattle.seq_theory.proofs.LowLaws.{bound-le-low, low-le-least}
 use Rattle.seq_theory.proofs.RowLaws.{same_group-true, wanted-within, sound-bounds}
 use Rattle.seq_huff.specs.Bounds.{greatest_cost}
-use Rattle.seq_huff.proofs.GreedyCode.{greedy-small}
+use Rattle.seq_huff.proofs.BoundFits.{product-le}
 use Rattle.seq_huff.proofs.LeastBounds.{weighed}
 use Rattle.seq_inst.specs.declared.group.Group.{Group}
 use Rattle.seq_inst.specs.declared.instance.Instance.{Instance}
 use Rattle.seq_inst.specs.declared.outcome.Row.{Row}
 use Rattle.seq_inst.specs.Members.{members}
 use Rattle.seq_inst.specs.Instances.{problem_of}
+use Rattle.seq_inst.proofs.MembersLaws.{length-members_below}
+use Rattle.seq_inst.proofs.WithinLaws.{light}
 use Rattle.seq_core.specs.RowsOf.{row_of as row_from, rows_of as rows_from}
-use Rattle.seq_core.specs.Mapping.{Placed, place_of}
 use Rattle.seq_finish.proofs.OutcomeLaws.{row-among}
-use Rattle.seq_finish.proofs.PlaceLaws.{place-found, place-none}
-use Rattle.seq_solo.specs.Known.{IsKnown, no_row, row_at, group_at}
+use Rattle.seq_solo.specs.Known.{AreRows, no_row, row_at, group_at}
 
 pub sized : (inst : Instance) → IsSized (problem_of inst)
 sized inst = record {
@@ -50,21 +51,7 @@ pub cases_row : (o : Option PlainRow) → (o ≡ None) ⊎ ((r : PlainRow) × (o
 cases_row None = inl refl
 cases_row (Some r) = inr (r, refl)
 
--- the place that the map gives
-pub record IsPlaced (rows : List Row) (group : List ℕ) (place : ℕ) : Type 0 where
-  pub in_range : place < length rows
-  pub row_is : row_of (rows_from rows) group ≡ Some (row_from (row_at rows place))
-
-module _ (p : Problem) (rows : List Row) (placed : List Placed) (known : IsKnown p rows placed) where
-  pub found : (group : List ℕ) (place : ℕ) (o : Option ℕ) → o ≡ place_of placed group → o ≡ Some place → IsPlaced rows group place
-  found group place o e is =
-      let f = place-found 0 rows group place (sym (ap (λ l. place_of l group) known.placed_is) ∙ sym e ∙ is) in
-      let range = f.in_range in
-      record { in_range = omega arith; row_is = f.row_is place (omega arith) no_row }
-
-  pub found-none : (group : List ℕ) (o : Option ℕ) → o ≡ place_of placed group → o ≡ None → row_of (rows_from rows) group ≡ None
-  found-none group o e is = place-none 0 rows group (sym (ap (λ l. place_of l group) known.placed_is) ∙ sym e ∙ is)
-
+module _ (p : Problem) (rows : List Row) (known : AreRows p rows) where
   -- ---- lows ----
 
   pub known_low-le : (group : List ℕ) → known_low p (rows_from rows) group ≤ low p (groups_of (rows_from rows)) group
@@ -100,42 +87,45 @@ module _ (p : Problem) (rows : List Row) (placed : List Placed) (known : IsKnown
   pub row-bounds : IsWeighed p → AreTold p → (place : ℕ) → place < length rows → ((row_at rows place).low ≤ least p (members (group_at rows place))) × (least p (members (group_at rows place)) ≤ (row_at rows place).up)
   row-bounds w told place lt = sound-bounds p (length rows) (rows_from rows) (row_from (row_at rows place)) w told known.sound (row-among rows place no_row lt)
 
--- ---- in the words of the code ----
+-- ---- least costs are small ----
 
-module _ (inst : Instance) (rows : List Row) (placed : List Placed) (known : IsKnown (problem_of inst) rows placed) where
-  pub least-small : (g : Group) → IsWithin (problem_of inst) (members g) → least (problem_of inst) (members g) ≤ greatest_cost
-  least-small g within =
-      let a = least-le-greedy (problem_of inst) (members g) inst.valid.told within in
-      let b = greedy-small inst g within in
+-- a group within the classes, no larger and no heavier than all of them may be
+pub record IsLight (p : Problem) (xs : List ℕ) : Type 0 where
+  pub within : IsWithin p xs
+  pub short : length xs ≤ 512
+  pub light : weight_of p xs ≤ 4097000000
+
+module _ (inst : Instance) where
+  pub light-group : (g : Group) → IsWithin (problem_of inst) (members g) → IsLight (problem_of inst) (members g)
+  light-group g within = record { within = within; short = length-members_below g 512; light = light inst g within }
+
+  pub light-pass : (t : ℕ) (xs : List ℕ) → IsLight (problem_of inst) xs → IsLight (problem_of inst) (pass_part (problem_of inst) t xs)
+  light-pass t xs h = record {
+    within = part-within (problem_of inst) ((problem_of inst).passes t) xs h.within;
+    short = (let a = length-two_filters ((problem_of inst).passes t) xs in let b = h.short in omega arith);
+    light = (let a = weight_of-parts (problem_of inst) t xs in let b = h.light in omega arith);
+  }
+
+  pub light-fail : (t : ℕ) (xs : List ℕ) → IsLight (problem_of inst) xs → IsLight (problem_of inst) (fail_part (problem_of inst) t xs)
+  light-fail t xs h = record {
+    within = part-within (problem_of inst) (fails (problem_of inst) t) xs h.within;
+    short = (let a = length-two_filters ((problem_of inst).passes t) xs in let b = h.short in omega arith);
+    light = (let a = weight_of-parts (problem_of inst) t xs in let b = h.light in omega arith);
+  }
+
+  pub least-small : (xs : List ℕ) → IsLight (problem_of inst) xs → least (problem_of inst) xs ≤ greatest_cost
+  least-small xs h =
+      let p = problem_of inst in
+      let a = least-le-greedy p xs inst.valid.told h.within in
+      let f = greedy-cheap p 1000000 xs (λ t lt. (inst.valid.costs t lt).1) inst.valid.told h.within in
+      let w = h.light in
+      let l = h.short in
+      let m = product-le (weight_of p xs) (length xs * 1000000) 4097000000 512000000 w (omega arith) in
       omega arith
 
-  pub known_low-small : (g : Group) → IsWithin (problem_of inst) (members g) → known_low (problem_of inst) (rows_from rows) (members g) ≤ greatest_cost
-  known_low-small g within =
-      let a = known_low-le (problem_of inst) rows placed known (members g) in
-      let b = low-le-least (problem_of inst) (groups_of (rows_from rows)) (members g) (weighed inst) inst.valid.told within in
-      let d = least-small g within in
+  pub known_low-small : (rows : List Row) → AreRows (problem_of inst) rows → (xs : List ℕ) → IsLight (problem_of inst) xs → known_low (problem_of inst) (rows_from rows) xs ≤ greatest_cost
+  known_low-small rows known xs h =
+      let a = known_low-le (problem_of inst) rows known xs in
+      let b = low-le-least (problem_of inst) (groups_of (rows_from rows)) xs (weighed inst) inst.valid.told h.within in
+      let d = least-small xs h in
       omega arith
-
-  pub low-end : (g : Group) → is_end (problem_of inst) (members g) ≡ true → 0 ≡ known_low (problem_of inst) (rows_from rows) (members g)
-  low-end g e = rw e refl
-
-  pub low-found : (g : Group) (place n : ℕ) → is_end (problem_of inst) (members g) ≡ false → IsPlaced rows (members g) place → n ≡ bound (problem_of inst) (members g) → max (row_at rows place).low n ≡ known_low (problem_of inst) (rows_from rows) (members g)
-  low-found g place n e at is = rw (e, at.row_is) (ap (max (row_at rows place).low) is)
-
-  pub low-none : (g : Group) (n : ℕ) → is_end (problem_of inst) (members g) ≡ false → row_of (rows_from rows) (members g) ≡ None → n ≡ bound (problem_of inst) (members g) → n ≡ known_low (problem_of inst) (rows_from rows) (members g)
-  low-none g n e none is = rw (e, none) is
-
-  pub up-end : (g : Group) → is_end (problem_of inst) (members g) ≡ true → Some 0 ≡ known_up (problem_of inst) (rows_from rows) (members g)
-  up-end g e = rw e refl
-
-  pub up-missing : (g : Group) (place : ℕ) → is_end (problem_of inst) (members g) ≡ false → IsPlaced rows (members g) place → (row_at rows place).up ≡ no_value → None ≡ known_up (problem_of inst) (rows_from rows) (members g)
-  up-missing g place e at is = rw (e, at.row_is, is) refl
-
-  pub up-found : (g : Group) (place : ℕ) → is_end (problem_of inst) (members g) ≡ false → IsPlaced rows (members g) place → ((row_at rows place).up ≡ no_value → ⊥) → Some (row_at rows place).up ≡ known_up (problem_of inst) (rows_from rows) (members g)
-  up-found g place e at ne = rw (e, at.row_is, ne_eqb (row_at rows place).up no_value ne) refl
-
-  pub up-none : (g : Group) → is_end (problem_of inst) (members g) ≡ false → row_of (rows_from rows) (members g) ≡ None → None ≡ known_up (problem_of inst) (rows_from rows) (members g)
-  up-none g e none = rw (e, none) refl
-
-  pub up-small : (g : Group) (place : ℕ) → IsPlaced rows (members g) place → ((row_at rows place).up ≡ no_value → ⊥) → (row_at rows place).up ≤ greatest_cost
-  up-small g place at ne = elim (known.small place no_row at.in_range) [ inl e ↦ absurd (ne e) | inr le ↦ le ]

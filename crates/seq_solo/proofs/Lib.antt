@@ -1,7 +1,11 @@
 pub mod KnownLaws
+pub mod PlaceLaws
+pub mod NumberLaws
+pub mod CountLaws
+pub mod CountChanges
+pub mod SplitLaws
 pub mod ChoiceLaws
 pub mod EventLaws
 pub mod OpenLaws
 pub mod StepLaws
 pub mod FoundLaws
-pub mod MemoLaws

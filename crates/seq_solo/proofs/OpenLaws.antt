@@ -7,8 +7,7 @@ use Rattle.seq_inst.specs.declared.instance.Instance.{Instance}
 use Rattle.seq_inst.specs.declared.outcome.Row.{Row}
 use Rattle.seq_inst.specs.Instances.{problem_of}
 use Rattle.seq_huff.proofs.LeastBounds.{weighed}
-use Rattle.seq_core.specs.Mapping.{Placed}
-use Rattle.seq_solo.specs.Known.{IsKnown, row_at, Narrows, IsClosedAt}
+use Rattle.seq_solo.specs.Known.{AreRows, row_at, Narrows, IsClosedAt}
 use Rattle.seq_solo.specs.Walks.{open_rows, left}
 use Rattle.seq_solo.proofs.KnownLaws.{row-bounds}
 use Rattle.seq_solo.proofs.EventLaws.{length-Narrows}
@@ -17,9 +16,9 @@ use Rattle.seq_solo.proofs.EventLaws.{length-Narrows}
 abbrev pub AreBetween : List Row → Type 0
 AreBetween rows = (k : ℕ) → k < length rows → (row_at rows k).low ≤ (row_at rows k).up
 
-pub known-between : (inst : Instance) (rows : List Row) (placed : List Placed) → IsKnown (problem_of inst) rows placed → AreBetween rows
-known-between inst rows placed known k lt =
-    let b = row-bounds (problem_of inst) rows placed known (weighed inst) inst.valid.told k lt in
+pub known-between : (inst : Instance) (rows : List Row) → AreRows (problem_of inst) rows → AreBetween rows
+known-between inst rows known k lt =
+    let b = row-bounds (problem_of inst) rows known (weighed inst) inst.valid.told k lt in
     let b0 = b.0 in
     let b1 = b.1 in
     omega arith

@@ -1,14 +1,12 @@
 -- What a walk does at a group is allowed: a part that it enters is real, by the law of walks; a part in which it goes on is
 -- smaller; and where both parts are closed, what they count may be both raised to and capped to.
-use Rattle.std.proofs.Common.{◌≡◌, ◌≢◌, ℕ, zero, suc, ◌<◌, ◌≤◌, max, Vec, List, [], ◌∷◌, ◌++◌, length, refl, sym, ap, ◌∙◌, arith, subst, Option, Some, None, length-append}
-use Rattle.std.specs.Prelude.{Bool, true, false}
-use Rattle.std.specs.Vec.{with_items}
-use Rattle.std.proofs.lemmas.Bool.{ne_eqb}
-use Rattle.std.proofs.lemmas.List.{with_items_is}
-use Rattle.seq_theory.specs.Problem.{Problem, is_end, splitting, pass_part, fail_part}
+use Rattle.std.proofs.Common.{◌≡◌, ◌≢◌, ℕ, zero, suc, ◌<◌, ◌≤◌, max, List, [], ◌∷◌, ◌++◌, length, get_or, refl, sym, ap, ◌∙◌, arith, inl, inr, subst, Option, Some, None, length-append}
+use Rattle.std.specs.Prelude.{Bool, true, false, cond}
+use Rattle.std.proofs.lemmas.Bool.{cases_Bool}
+use Rattle.seq_theory.specs.Problem.{Problem, IsWithin, is_end, splitting, pass_part, fail_part}
 use Rattle.seq_theory.specs.Bound.{bound, step_sum}
 use Rattle.seq_theory.specs.Graph.{part, IsWanted}
-use Rattle.seq_theory.specs.Rows.{no_value, groups_of, known_low, known_up, most_low, least_up}
+use Rattle.seq_theory.specs.Rows.{no_value, groups_of, row_of, known_low, known_up, most_low, least_up}
 use Rattle.seq_theory.proofs.GreedyLaws.{bound-le-least}
 use Rattle.seq_theory.proofs.GroupLaws.{pass_part_smaller, fail_part_smaller}
 use Rattle.seq_theory.proofs.PartsRecursion.{splitting-splits, splitting-there}
@@ -21,45 +19,103 @@ use Rattle.seq_inst.specs.declared.outcome.Row.{Row}
 use Rattle.seq_inst.specs.Members.{members}
 use Rattle.seq_inst.specs.Instances.{problem_of}
 use Rattle.seq_core.specs.RowsOf.{row_of as row_from, rows_of as rows_from}
-use Rattle.seq_core.specs.Mapping.{Placed}
 use Rattle.seq_finish.proofs.RowLaws.{row-none}
 use Rattle.seq_solo.specs.declared.turn.Knowledge.{Knowledge}
 use Rattle.seq_solo.specs.declared.turn.Knowledge.TheVariants.{Unknown, Open, Closed}
-use Rattle.seq_solo.specs.Known.{IsKnown, row_at, group_at, Narrows, IsClosedAt}
+use Rattle.seq_core.specs.declared.kept.Kept.{Kept}
+use Rattle.seq_core.specs.Numbered.{Numbered, HasNumber}
+use Rattle.seq_core.specs.Settled.{value_or}
+use Rattle.seq_solo.specs.declared.search.Count.{Count}
+use Rattle.seq_solo.specs.Known.{AreRows, AreKnown, count_of, row_at, group_at, Narrows, IsClosedAt}
 use Rattle.seq_solo.specs.Parts.{IsUnknown, IsOpenAt, IsKnowledge}
 use Rattle.seq_solo.specs.Steps.{IsNew, IsOpenBelow, IsStep, step_by}
 use Rattle.seq_solo.specs.Walks.{HasMoved, HasTurned}
-use Rattle.seq_solo.proofs.KnownLaws.{IsPlaced, row_of-found, known_low-le, bound-le-known_low, row-real, row-within, row-bounds, least-small}
+use Rattle.seq_solo.proofs.KnownLaws.{IsLight, light-group, known_low-small, known_low-le, bound-le-known_low, row-real, row-within, row-bounds}
+use Rattle.seq_solo.proofs.PlaceLaws.{IsPlaced, place-found, place-none}
+use Rattle.seq_solo.proofs.CountLaws.{count-read, up-given}
+use Rattle.seq_solo.proofs.CountChanges.{count-row}
 use Rattle.seq_solo.proofs.ChoiceLaws.{IsFirst}
 use Rattle.seq_solo.proofs.EventLaws.{length-Narrows, group-Narrows}
 use Rattle.seq_solo.proofs.OpenLaws.{known-between, left-entered, left-narrows, left-closes}
 
-module _ (inst : Instance) (rows : List Row) (placed : List Placed) (known : IsKnown (problem_of inst) rows placed) where
-  -- ---- what is known of a part ----
+-- ---- what is known of a part, by what it counts ----
 
-  pub end-counts : (group : List ℕ) → is_end (problem_of inst) group ≡ true → known_up (problem_of inst) (rows_from rows) group ≡ Some (known_low (problem_of inst) (rows_from rows) group)
-  end-counts group e = rw e refl
+module _ (inst : Instance) (v : Numbered) (rows : List Row) (kept : List Kept) (counts : List Count) (known : AreKnown (problem_of inst) v rows kept counts) where
+  counted : (g : List ℕ) (n : ℕ) (x : Count) → HasNumber v g n → x ≡ get_or counts n x → x ≡ count_of (problem_of inst) rows g
+  counted = count-read (problem_of inst) v rows kept counts known
 
-  placed-same : (g : Group) (place : ℕ) → IsPlaced rows (members g) place → members g ≡ members (group_at rows place)
-  placed-same g place at = (row_of-found (rows_from rows) (members g) (row_from (row_at rows place)) at.row_is).same
+  -- without a row it counts an up only where it has one goal
+  none-up : (g : List ℕ) → row_of (rows_from rows) g ≡ None → known_up (problem_of inst) (rows_from rows) g ≡ cond (is_end (problem_of inst) g) (Some 0) None
+  none-up g none = rw none refl
 
-  pub closed-counts : (g : Group) (place : ℕ) → is_end (problem_of inst) (members g) ≡ false → IsPlaced rows (members g) place → (row_at rows place).low ≡ (row_at rows place).up → known_up (problem_of inst) (rows_from rows) (members g) ≡ Some (known_low (problem_of inst) (rows_from rows) (members g))
-  closed-counts g place e at closed =
+  none-row : (g : List ℕ) (n : ℕ) (x : Count) → HasNumber v g n → x ≡ get_or counts n x → x.place ≡ None → row_of (rows_from rows) g ≡ None
+  none-row g n x has read none = place-none rows g (sym (ap (λ (c : Count). c.place) (counted g n x has read)) ∙ none)
+
+  pub unknown-counted : (g : List ℕ) (n : ℕ) (x : Count) → HasNumber v g n → x ≡ get_or counts n x → x.place ≡ None → x.up ≡ no_value → IsUnknown (problem_of inst) rows g
+  unknown-counted g n x has read none up = record {
+    goals = elim (cases_Bool (is_end (problem_of inst) g)) [
+      | inl y ↦ absurd (
+          let e : x.up ≡ value_or (known_up (problem_of inst) (rows_from rows) g) = ap (λ (c : Count). c.up) (counted g n x has read) in
+          let z : value_or (known_up (problem_of inst) (rows_from rows) g) ≡ 0 = rw y refl in
+          let bad : ⊥ = omega arith in
+          bad
+          )
+      | inr o ↦ o
+    ];
+    absent = none-row g n x has read none;
+  }
+
+  pub end-counted : (g : List ℕ) (n : ℕ) (x : Count) → HasNumber v g n → x ≡ get_or counts n x → x.place ≡ None → x.up ≢ no_value → known_up (problem_of inst) (rows_from rows) g ≡ Some (known_low (problem_of inst) (rows_from rows) g)
+  end-counted g n x has read none up = elim (cases_Bool (is_end (problem_of inst) g)) [
+    | inl y ↦ rw y refl
+    | inr o ↦ absurd (up (ap (λ (c : Count). c.up) (counted g n x has read) ∙ ap value_or (none-up g (none-row g n x has read none) ∙ ap (λ b. cond b (Some 0) None) o)))
+  ]
+
+  placed : (g : List ℕ) (n place : ℕ) (x : Count) → HasNumber v g n → x ≡ get_or counts n x → x.place ≡ Some place → IsPlaced rows g place
+  placed g n place x has read at = place-found rows g place (sym (ap (λ (c : Count). c.place) (counted g n x has read)) ∙ at)
+
+  -- the count of a group with a row
+  row-counted : (g : List ℕ) (n place : ℕ) (x : Count) → HasNumber v g n → x ≡ get_or counts n x → x.place ≡ Some place → x ≡ record { low = max (row_at rows place).low (bound (problem_of inst) g); up = (row_at rows place).up; place = Some place }
+  row-counted g n place x has read at =
+      let f = placed g n place x has read at in
+      let goals : is_end (problem_of inst) g ≡ false = subst (λ h. is_end (problem_of inst) h ≡ false) (sym f.same) (row-real (problem_of inst) rows known.rows_are place f.in_range).goals in
+      counted g n x has read ∙ count-row (problem_of inst) rows g (row_from (row_at rows place)) (Some place) goals f.row_is (sym (ap (λ (c : Count). c.place) (counted g n x has read)) ∙ at)
+
+  -- a row whose low and up are equal has a low that is no less than the bound
+  low-above : (place : ℕ) → place < length rows → (row_at rows place).low ≡ (row_at rows place).up → bound (problem_of inst) (members (group_at rows place)) ≤ (row_at rows place).low
+  low-above place lt closed =
       let p = problem_of inst in
-      let same = placed-same g place at in
-      let b = row-bounds p rows placed known (weighed inst) inst.valid.told place at.in_range in
+      let b = row-bounds p rows known.rows_are (weighed inst) inst.valid.told place lt in
       let b0 = b.0 in
       let b1 = b.1 in
-      let within = row-within p rows placed known place at.in_range in
-      let low = bound-le-least p (members (group_at rows place)) (weighed inst) inst.valid.told within in
-      let small = least-small inst rows placed known (group_at rows place) within in
-      let other : (row_at rows place).up ≡ no_value → ⊥ = λ h. let bad : ⊥ = omega arith in bad in
-      let bounds = ap (bound p) same in
-      rw (e, at.row_is, ne_eqb (row_at rows place).up no_value other) (ap (λ n. Some n) (let m : (row_at rows place).up ≡ max (row_at rows place).low (bound p (members g)) = omega arith in m))
+      let low = bound-le-least p (members (group_at rows place)) (weighed inst) inst.valid.told (row-within p rows known.rows_are place lt) in
+      omega arith
 
-  pub open-part : (g : Group) (place : ℕ) → IsPlaced rows (members g) place → (row_at rows place).low ≢ (row_at rows place).up → IsOpenAt rows (members g) place
-  open-part g place at apart = record { there = at.in_range; same = sym (placed-same g place at); apart = apart }
+  pub open-counted : (g : List ℕ) (n : ℕ) (x : Count) (place : ℕ) → HasNumber v g n → x ≡ get_or counts n x → x.place ≡ Some place → x.low ≢ x.up → IsOpenAt rows g place
+  open-counted g n x place has read at apart =
+      let f = placed g n place x has read at in
+      let e = row-counted g n place x has read at in
+      let low : x.low ≡ max (row_at rows place).low (bound (problem_of inst) g) = ap (λ (c : Count). c.low) e in
+      let up : x.up ≡ (row_at rows place).up = ap (λ (c : Count). c.up) e in
+      let same = ap (bound (problem_of inst)) f.same in
+      record {
+        there = f.in_range;
+        same = sym f.same;
+        apart = λ closed. apart (let above = low-above place f.in_range closed in omega arith);
+      }
 
+  pub closed-counted : (g : List ℕ) (n : ℕ) (x : Count) (place : ℕ) → HasNumber v g n → x ≡ get_or counts n x → x.place ≡ Some place → x.low ≡ x.up → known_up (problem_of inst) (rows_from rows) g ≡ Some (known_low (problem_of inst) (rows_from rows) g)
+  closed-counted g n x place has read at closed =
+      let p = problem_of inst in
+      let f = placed g n place x has read at in
+      let c = counted g n x has read in
+      let low : x.low ≡ known_low p (rows_from rows) g = ap (λ (y : Count). y.low) c in
+      let within : IsWithin p g = known.numbers_are.within g n has in
+      let light = subst (IsLight p) (sym f.same) (light-group inst (group_at rows place) (row-within p rows known.rows_are place f.in_range)) in
+      let small = known_low-small inst rows known.rows_are g light in
+      up-given p v rows kept counts known g n x has read (λ none. let bad : ⊥ = omega arith in bad) ∙ ap (λ m. Some m) (sym closed ∙ low)
+
+module _ (inst : Instance) (rows : List Row) (known : AreRows (problem_of inst) rows) where
   -- ---- what the walk does ----
 
   new-part : (place t : ℕ) (passed : Bool) (g : Group) → place < length rows
@@ -67,11 +123,11 @@ module _ (inst : Instance) (rows : List Row) (placed : List Placed) (known : IsK
       → members g ≡ part (problem_of inst) t passed (members (group_at rows place)) → IsUnknown (problem_of inst) rows (members g) → IsNew (problem_of inst) rows (members g)
   new-part place t passed g lt first is unknown =
       let p = problem_of inst in
-      let real = row-real p rows placed known place lt in
+      let real = row-real p rows known place lt in
       let wanted = walk-wanted p (known_low p (rows_from rows)) (members (group_at rows place)) t passed inst.valid.told real.wanted real.goals
       (splitting-there p (members (group_at rows place)) t first.among) (splitting-splits p (members (group_at rows place)) t first.among)
-      (bound-le-known_low p rows placed known)
-      (λ x within. let a = known_low-le p rows placed known x in let b = low-le-least p (groups_of (rows_from rows)) x (weighed inst) inst.valid.told within in omega arith) first.least in
+      (bound-le-known_low p rows known)
+      (λ x within. let a = known_low-le p rows known x in let b = low-le-least p (groups_of (rows_from rows)) x (weighed inst) inst.valid.told within in omega arith) first.least in
       record {
         real = record { wanted = subst (IsWanted p) (sym is) wanted; goals = unknown.goals };
         absent = row-none (rows_from rows) (members g) unknown.absent;
@@ -132,14 +188,6 @@ module _ (inst : Instance) (rows : List Row) (placed : List Placed) (known : IsK
 
 -- ---- after a turn ----
 
--- a list whose rows were narrowed in place has the narrowed rows
-pub narrowed-items : {Z : Type 0} (v : Vec Row Z) (now ws : List Row) → now ≡ v.items → Narrows now ws → (with_items v ws).items ≡ ws
-narrowed-items v now ws e n =
-    let l = length-Narrows now ws n in
-    let m = ap length e in
-    let k = v.ok.0 in
-    with_items_is v ws (omega arith)
-
 group-append : (rows : List Row) (r : Row) (k : ℕ) → k < length rows → group_at (rows ++ r ∷ []) k ≡ group_at rows k
 group-append [] r k lt = absurd (let bad : ⊥ = omega arith in bad)
 group-append (s ∷ rest) r zero lt = refl
@@ -149,43 +197,43 @@ pub entered-long : (old new : List Row) (r : Row) → Narrows (old ++ r ∷ []) 
 entered-long old new r n = let l = length-Narrows (old ++ r ∷ []) new n in let m = length-append old (r ∷ []) in omega arith
 
 module _ (inst : Instance) (limit : ℕ) (old : List Row) where
-  pub moved-enter : (r : Row) (entered new : List Row) (placed1 placed : List Placed) → length old < limit → IsKnown (problem_of inst) entered placed1 → Narrows (old ++ r ∷ []) entered → IsKnown (problem_of inst) new placed → Narrows entered new → HasMoved (problem_of inst) limit old new placed
-  moved-enter r entered new placed1 placed room known1 n1 known n2 =
+  pub moved-enter : (r : Row) (entered new : List Row) → length old < limit → AreRows (problem_of inst) entered → Narrows (old ++ r ∷ []) entered → AreRows (problem_of inst) new → Narrows entered new → HasMoved (problem_of inst) limit old new
+  moved-enter r entered new room known1 n1 known n2 =
       let l1 = length-Narrows (old ++ r ∷ []) entered n1 in
       let l2 = length-Narrows entered new n2 in
       let l0 = length-append old (r ∷ []) in
       record {
-        known = known;
+        rows_are = known;
         few = omega arith;
         keeps = λ k lt. (omega arith, group-Narrows entered new k n2 (omega arith) ∙ group-Narrows (old ++ r ∷ []) entered k n1 (omega arith) ∙ group-append old r k lt);
         less =
-            (let a = left-entered limit old r entered room n1 (known-between inst entered placed1 known1) in
-            let b = left-narrows limit entered new n2 (known-between inst new placed known) in
+            (let a = left-entered limit old r entered room n1 (known-between inst entered known1) in
+            let b = left-narrows limit entered new n2 (known-between inst new known) in
             omega arith);
       }
 
-  pub moved-down : (turned new : List Row) (placed1 placed : List Placed) → HasMoved (problem_of inst) limit old turned placed1 → IsKnown (problem_of inst) new placed → Narrows turned new → HasMoved (problem_of inst) limit old new placed
-  moved-down turned new placed1 placed m known n =
+  pub moved-down : (turned new : List Row) → HasMoved (problem_of inst) limit old turned → AreRows (problem_of inst) new → Narrows turned new → HasMoved (problem_of inst) limit old new
+  moved-down turned new m known n =
       let l = length-Narrows turned new n in
       let few = m.few in
       record {
-        known = known;
+        rows_are = known;
         few = omega arith;
         keeps = λ k lt. let f = m.keeps k lt in let f0 = f.0 in (omega arith, group-Narrows turned new k n f.0 ∙ f.1);
-        less = (let a = m.less in let b = left-narrows limit turned new n (known-between inst new placed known) in omega arith);
+        less = (let a = m.less in let b = left-narrows limit turned new n (known-between inst new known) in omega arith);
       }
 
-  pub moved-close : (new : List Row) (placed : List Placed) (place : ℕ) → length old ≤ limit → place < length old → (row_at old place).low ≢ (row_at old place).up → IsKnown (problem_of inst) new placed → Narrows old new → IsClosedAt new place → HasMoved (problem_of inst) limit old new placed
-  moved-close new placed place few lt apart known n closed =
+  pub moved-close : (new : List Row) (place : ℕ) → length old ≤ limit → place < length old → (row_at old place).low ≢ (row_at old place).up → AreRows (problem_of inst) new → Narrows old new → IsClosedAt new place → HasMoved (problem_of inst) limit old new
+  moved-close new place few lt apart known n closed =
       let l = length-Narrows old new n in
       record {
-        known = known;
+        rows_are = known;
         few = omega arith;
         keeps = λ k lt. (omega arith, group-Narrows old new k n lt);
-        less = left-closes limit old new place n (known-between inst new placed known) lt apart closed;
+        less = left-closes limit old new place n (known-between inst new known) lt apart closed;
       }
 
 -- a turn that stopped at no group has moved
-pub turned-none : (p : Problem) (limit : ℕ) (old new : List Row) (placed : List Placed) (o : Option Group) → ((g : Group) → o ≡ Some g → ⊥) → HasTurned p limit old new placed o → HasMoved p limit old new placed
-turned-none p limit old new placed None h t = t
-turned-none p limit old new placed (Some g) h t = absurd (h g refl)
+pub turned-none : (p : Problem) (limit : ℕ) (old new : List Row) (o : Option Group) → ((g : Group) → o ≡ Some g → ⊥) → HasTurned p limit old new o → HasMoved p limit old new
+turned-none p limit old new None h t = t
+turned-none p limit old new (Some g) h t = absurd (h g refl)

@@ -1,24 +1,28 @@
--- What a walk knows: sound rows, and the places of their groups.
-use Rattle.std.specs.Prelude.{◌≡◌, ◌⊎◌, ℕ, ◌≤◌, max, min, All, List, [], ◌∷◌, length, slice_set, slice_index_or}
+-- What a walk knows: sound rows, what is kept of each row's group, and what each group with a number counts.
+use Rattle.std.specs.Prelude.{◌≡◌, ◌⊎◌, ℕ, ◌≤◌, max, min, All, List, [], ◌∷◌, length, map, Some, None, slice_get, slice_set, slice_index_or}
 use Rattle.seq_theory.specs.Problem.{Problem}
-use Rattle.seq_theory.specs.Rows.{no_value, IsSound}
+use Rattle.seq_theory.specs.Rows.{no_value, known_low, known_up, IsSound}
 use Rattle.seq_huff.specs.Bounds.{greatest_cost}
 use Rattle.seq_inst.specs.declared.group.Group.{Group}
 use Rattle.seq_inst.specs.declared.outcome.Row.{Row}
+use Rattle.seq_inst.specs.Members.{members}
 use Rattle.seq_inst.specs.Valid.{no_class}
-use Rattle.seq_core.specs.RowsOf.{rows_of as rows_from}
-use Rattle.seq_core.specs.Mapping.{Placed}
-use Rattle.seq_core.specs.Tables.{numbered}
+use Rattle.seq_core.specs.declared.kept.Kept.{Kept}
+use Rattle.seq_core.specs.KeptOf.{IsKeptOf}
+use Rattle.seq_core.specs.Numbered.{Numbered, AreNumbers}
+use Rattle.seq_core.specs.RowsOf.{rows_of as rows_from, place_in}
+use Rattle.seq_core.specs.Settled.{value_or}
+use Rattle.seq_solo.specs.declared.search.Count.{Count}
+use Rattle.seq_solo.specs.declared.search.Search.{Search}
 
 -- no upper bound is known, or it is one of a size that sums of three fit a word
 abbrev pub HasSmallUp : Row → Type 0
 HasSmallUp r = (r.up ≡ no_value) ⊎ (r.up ≤ greatest_cost)
 
--- the rows are sound, and the map has the place of each row's group
-pub record IsKnown (p : Problem) (rows : List Row) (placed : List Placed) : Type 0 where
+-- the rows are sound, and their ups are small
+pub record AreRows (p : Problem) (rows : List Row) : Type 0 where
   pub sound : IsSound p (length rows) (rows_from rows)
   pub small : All HasSmallUp rows
-  pub placed_is : placed ≡ numbered 0 rows
 
 abbrev pub no_row : Row
 no_row = record { group = no_class; low = 0; up = 0 }
@@ -30,12 +34,41 @@ row_at rows place = slice_index_or rows place no_row
 abbrev pub group_at : List Row → ℕ → Group
 group_at rows place = (row_at rows place).group
 
+-- what is kept is that of the rows' groups, one by one
+pub record AreKept (p : Problem) (v : Numbered) (rows : List Row) (kept : List Kept) : Type 0 where
+  pub as_many : length kept ≡ length rows
+  pub each : (place : ℕ) (k : Kept) → slice_get kept place ≡ Some k → IsKeptOf p v (members (group_at rows place)) k
+
+-- what a group counts for a low and for an up, and the place of its row
+abbrev pub count_of : Problem → List Row → List ℕ → Count
+count_of p rows group = record { low = known_low p (rows_from rows) group; up = value_or (known_up p (rows_from rows) group); place = place_in (rows_from rows) group }
+
+-- the rows are sound, the numbers and what is kept are right, and beside each number stands what its group counts
+pub record AreKnown (p : Problem) (v : Numbered) (rows : List Row) (kept : List Kept) (counts : List Count) : Type 0 where
+  pub rows_are : AreRows p rows
+  pub numbers_are : AreNumbers p v
+  pub kept_are : AreKept p v rows kept
+  pub counts_are : counts ≡ map (count_of p rows) v.groups
+
+abbrev pub IsKnown : Problem → Search → Type 0
+IsKnown p s = AreKnown p s.numbers s.rows.items s.kept.items s.counts.items
+
 -- the rows with one row's low raised, or its up lowered
 abbrev pub raised_at : List Row → ℕ → ℕ → List Row
 raised_at rows place to = slice_set rows place (record (row_at rows place) { low = max (row_at rows place).low to })
 
 abbrev pub capped_at : List Row → ℕ → ℕ → List Row
 capped_at rows place to = slice_set rows place (record (row_at rows place) { up = min (row_at rows place).up to })
+
+abbrev pub no_count : Count
+no_count = record { low = 0; up = 0; place = None }
+
+abbrev pub count_at : List Count → ℕ → Count
+count_at counts number = slice_index_or counts number no_count
+
+-- the counts with that of one number raised and capped
+abbrev pub narrowed_at : List Count → ℕ → ℕ → ℕ → List Count
+narrowed_at counts number low up = slice_set counts number (record (count_at counts number) { low = max (count_at counts number).low low; up = min (count_at counts number).up up })
 
 -- each row has its group still, with a low and an up that are no farther apart
 abbrev pub Narrows : List Row → List Row → Type 0

@@ -4,5 +4,4 @@ pub mod Steps
 pub mod Parts
 pub mod Walks
 pub mod Found
-pub mod Memos
-pub mod Tools
+pub mod Counts

@@ -4,8 +4,7 @@ use Rattle.seq_theory.specs.Problem.{Problem}
 use Rattle.seq_inst.specs.declared.group.Group.{Group}
 use Rattle.seq_inst.specs.declared.outcome.Row.{Row}
 use Rattle.seq_inst.specs.Members.{members}
-use Rattle.seq_core.specs.Mapping.{Placed}
-use Rattle.seq_solo.specs.Known.{IsKnown, group_at}
+use Rattle.seq_solo.specs.Known.{AreRows, group_at}
 use Rattle.seq_solo.specs.Steps.{IsNew}
 
 -- how many rows are open: their least cost is not known yet
@@ -22,8 +21,8 @@ abbrev pub KeepsGroups : List Row → List Row → Type 0
 KeepsGroups old new = (k : ℕ) → k < length old → (k < length new) × (group_at new k ≡ group_at old k)
 
 -- the walk has entered a group or closed one, so less is left
-pub record HasMoved (p : Problem) (limit : ℕ) (old new : List Row) (placed : List Placed) : Type 0 where
-  pub known : IsKnown p new placed
+pub record HasMoved (p : Problem) (limit : ℕ) (old new : List Row) : Type 0 where
+  pub rows_are : AreRows p new
   pub few : length new ≤ limit
   pub keeps : KeepsGroups old new
   pub less : left limit new < left limit old
@@ -35,6 +34,6 @@ pub record IsStopped (p : Problem) (limit : ℕ) (old new : List Row) (missed : 
   pub missed_is : IsNew p new (members missed)
 
 -- after one turn
-abbrev pub HasTurned : Problem → ℕ → List Row → List Row → List Placed → Option Group → Type 0
-HasTurned p limit old new placed None = HasMoved p limit old new placed
-HasTurned p limit old new placed (Some missed) = IsStopped p limit old new missed
+abbrev pub HasTurned : Problem → ℕ → List Row → List Row → Option Group → Type 0
+HasTurned p limit old new None = HasMoved p limit old new
+HasTurned p limit old new (Some missed) = IsStopped p limit old new missed

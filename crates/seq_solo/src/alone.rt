@@ -8,19 +8,30 @@ ghost use Rattle.seq_theory.specs.Rows.{IsSound};
 ghost use Rattle.seq_inst.specs.Instances.{problem_of};
 ghost use Rattle.seq_core.specs.RowsOf.{rows_of as rows_from};
 ghost use Rattle.seq_core.specs.Settled.{groups_in};
+ghost use Rattle.seq_core.specs.Numbered.{AreNumbers};
 ghost use Rattle.seq_finish.specs.Entered.{MayStop};
 ghost use Rattle.seq_solo.specs.Found.{BeginsWithAll, HasEnded};
 
 use crate::events::enter;
 use crate::found::Found;
-use crate::tools::new_tools;
+use crate::search::Search;
 use crate::turn::turn;
-use seq_core::Places;
-use seq_inst::{Instance, is_leaf, root};
+use seq_huff::Scratch;
+use seq_inst::{Group, Instance, is_leaf, root};
 use std::alloc::{AllocError, Global};
 
-/// How many groups are remembered for each that may be entered.
-const MEMO_GROUPS: u32 = 16;
+/// What a search ends with, of which no more is needed than the rows and the numbers.
+fn found_by(search: Search, missed: Option<Group>) -> Found
+    ensures rows { result.rows.items ≡ search.rows.items }
+    ensures missed { result.missed ≡ missed }
+    ensures numbers { result.numbers ≡ search.numbers }
+{
+    Found {
+        rows: search.rows,
+        missed,
+        numbers: search.numbers,
+    }
+}
 
 /// Searches with room for so many groups.
 pub fn solve_alone(alloc: Global, inst: &Instance, limit: u32) -> Result<Found, AllocError>
@@ -31,22 +42,19 @@ pub fn solve_alone(alloc: Global, inst: &Instance, limit: u32) -> Result<Found, 
     ensures root { IfOk result (λ f. is_end (problem_of inst.now) (all_classes (problem_of inst.now)) ≡ false → is_entered (groups_in f.rows.items) (all_classes (problem_of inst.now)) ≡ true) }
     ensures ended { IfOk result (λ f. HasEnded (problem_of inst.now) limit f.rows.items f.missed) }
     ensures stopped { IfOk result (λ f. MayStop (problem_of inst.now) limit (groups_in f.rows.items) f.missed) }
+    ensures numbers { IfOk result (λ f. AreNumbers (problem_of inst.now) f.numbers) }
 {
     let all = root(inst);
-    let mut rows = Vec::new(alloc);
+    let mut search = Search::new(alloc);
     if is_leaf(inst, &all) {
-        return Ok(Found { rows, missed: None });
+        return Ok(found_by(search, None));
     }
-    let mut places = Places::new(alloc, limit)?;
-    let mut tools = new_tools(alloc, inst, MEMO_GROUPS * limit)?;
-    enter(&mut tools, inst, &mut rows, &mut places, &all)?;
-    'turns: while rows[0].low != rows[0].up {
-        if let Some(missed) = turn(&mut tools, inst, limit, &mut rows, &mut places, 0)? {
-            return Ok(Found {
-                rows,
-                missed: Some(missed),
-            });
+    let mut scratch = Scratch::new();
+    enter(alloc, &mut scratch, inst, &mut search, &all)?;
+    'turns: while search.rows[0].low != search.rows[0].up {
+        if let Some(missed) = turn(alloc, &mut scratch, inst, limit, &mut search, 0)? {
+            return Ok(found_by(search, Some(missed)));
         }
     }
-    Ok(Found { rows, missed: None })
+    Ok(found_by(search, None))
 }

@@ -1,91 +1,66 @@
-//! The test of least sum, and the least cost that the known ups allow. Both go through all tests that
-//! split the group.
-ghost use Rattle.std.specs.Prelude.{◌≡◌, ◌<◌, ◌≤◌, false, vec_len};
-ghost use Rattle.seq_theory.specs.Problem.{IsWithin, is_end, splitting, weight_of as weight_sum};
+//! The test of least sum, and what the rows allow a group to be raised and capped to. All go through
+//! the tests that are kept of the group.
+ghost use Rattle.std.specs.Prelude.{◌≡◌, ◌<◌, ◌≤◌, length};
+ghost use Rattle.seq_theory.specs.Problem.{splitting};
 ghost use Rattle.seq_theory.specs.Bound.{step_sum};
 ghost use Rattle.seq_theory.specs.Graph.{step_value};
 ghost use Rattle.seq_theory.specs.Greedy.{first_least};
-ghost use Rattle.seq_theory.specs.Rows.{known_low, known_up, least_up as least_up_of};
+ghost use Rattle.seq_theory.specs.Rows.{known_low, known_up, most_low as most_low_of, least_up as least_up_of};
 ghost use Rattle.seq_huff.specs.Bounds.{greatest_cost};
 ghost use Rattle.seq_inst.specs.Members.{members};
 ghost use Rattle.seq_inst.specs.Instances.{problem_of};
 ghost use Rattle.seq_core.specs.RowsOf.{rows_of as rows_from};
-ghost use Rattle.seq_solo.specs.Known.{IsKnown};
-ghost use Rattle.seq_solo.specs.Tools.{AreTools};
+ghost use Rattle.seq_core.specs.KeptOf.{HasParts};
+ghost use Rattle.seq_solo.specs.Known.{IsKnown, group_at};
 ghost use Rattle.seq_solo.specs.Choice.{lesser_choice, lesser_value};
 
-use crate::greedy::greedy_of;
-use crate::known::{low_of, up_of};
-use crate::tools::Tools;
-use seq_core::Places;
-use seq_inst::{Answer, Group, Instance, Row, part, splits, weight_of};
+use crate::search::Search;
+use seq_core::Split;
+use seq_inst::Instance;
 
-/// A test and its sum.
+/// A test with the numbers of its parts, and its sum.
 #[derive(Clone, Copy)]
 pub(crate) struct Chosen {
-    pub(crate) test: u32,
+    pub(crate) split: Split,
     pub(crate) sum: u64,
 }
 
 /// The earlier choice, unless the new sum is less.
-pub(crate) fn choose(earlier: Option<Chosen>, test: u32, sum: u64) -> Chosen
-    ensures { result ≡ lesser_choice earlier test sum }
+fn choose(earlier: Option<Chosen>, split: Split, sum: u64) -> Chosen
+    ensures { result ≡ lesser_choice earlier split sum }
 {
     match earlier {
         Some(chosen) if chosen.sum <= sum => chosen,
-        _ => Chosen { test, sum },
+        _ => Chosen { split, sum },
     }
 }
 
-/// The sum of a test over the group, of which the weight is known, and what its parts count.
-fn low_sum(
-    tools: &mut Tools,
-    inst: &Instance,
-    rows: &[Row],
-    places: &Places,
-    group: &Group,
-    test: u32,
-    weight: u64,
-) -> u64
-    requires tools { AreTools (problem_of inst.now) tools.old }
-    requires known { IsKnown (problem_of inst.now) rows.now places.now.placed }
-    requires within { IsWithin (problem_of inst.now) (members group.now) }
-    requires there { test < vec_len inst.now.costs }
-    requires weight { weight ≡ weight_sum (problem_of inst.now) (members group.now) }
-    ensures tools { AreTools (problem_of inst.now) tools.new }
-    ensures value { result ≡ step_sum (problem_of inst.now) (known_low (problem_of inst.now) (rows_from rows.now)) (members group.now) test }
+/// The sum of a test over the group of the place, and what its parts count.
+fn low_sum(inst: &Instance, search: &Search, place: usize, split: Split) -> u64
+    requires known { IsKnown (problem_of inst.now) search.now }
+    requires place { place < length search.now.rows.items }
+    requires parts { HasParts (problem_of inst.now) search.now.numbers (members (group_at search.now.rows.items place)) split }
+    requires there { split.test < length inst.now.costs.items }
+    ensures { result ≡ step_sum (problem_of inst.now) (known_low (problem_of inst.now) (rows_from search.now.rows.items)) (members (group_at search.now.rows.items place)) split.test }
 {
-    let pass_part = part(inst, group, test, Answer::Pass);
-    let pass = low_of(tools, inst, rows, places, &pass_part);
-    let fail_part = part(inst, group, test, Answer::Fail);
-    let fail = low_of(tools, inst, rows, places, &fail_part);
-    u64::from(inst.costs[test as usize]) * weight + (pass + fail)
+    let pass = search.counts[split.pass as usize].low;
+    let fail = search.counts[split.fail as usize].low;
+    u64::from(inst.costs[split.test as usize]) * search.kept[place].weight + (pass + fail)
 }
 
 /// The splitting test of least sum, the lowest of these.
-pub(crate) fn least_test(
-    tools: &mut Tools,
-    inst: &Instance,
-    rows: &[Row],
-    places: &Places,
-    group: &Group,
-) -> Chosen
-    requires tools { AreTools (problem_of inst.now) tools.old }
-    requires known { IsKnown (problem_of inst.now) rows.now places.now.placed }
-    requires within { IsWithin (problem_of inst.now) (members group.now) }
-    requires more { is_end (problem_of inst.now) (members group.now) ≡ false }
-    ensures tools { AreTools (problem_of inst.now) tools.new }
-    ensures test { result.test ≡ first_least (step_sum (problem_of inst.now) (known_low (problem_of inst.now) (rows_from rows.now)) (members group.now)) (splitting (problem_of inst.now) (members group.now)) }
-    ensures sum { result.sum ≡ step_sum (problem_of inst.now) (known_low (problem_of inst.now) (rows_from rows.now)) (members group.now) result.test }
+pub(crate) fn least_test(inst: &Instance, search: &Search, place: usize) -> Chosen
+    requires known { IsKnown (problem_of inst.now) search.now }
+    requires place { place < length search.now.rows.items }
+    ensures test { result.split.test ≡ first_least (step_sum (problem_of inst.now) (known_low (problem_of inst.now) (rows_from search.now.rows.items)) (members (group_at search.now.rows.items place))) (splitting (problem_of inst.now) (members (group_at search.now.rows.items place))) }
+    ensures sum { result.sum ≡ step_sum (problem_of inst.now) (known_low (problem_of inst.now) (rows_from search.now.rows.items)) (members (group_at search.now.rows.items place)) result.split.test }
+    ensures parts { HasParts (problem_of inst.now) search.now.numbers (members (group_at search.now.rows.items place)) result.split }
 {
-    let weight = weight_of(inst, group);
-    let tests = inst.costs.len() as u32;
+    let splits = search.kept[place].splits.as_slice();
     let mut chosen = None;
-    for test in 0..tests {
-        if splits(inst, group, test) {
-            let sum = low_sum(tools, inst, rows, places, group, test, weight);
-            chosen = Some(choose(chosen, test, sum));
-        }
+    for split in splits {
+        let sum = low_sum(inst, search, place, *split);
+        chosen = Some(choose(chosen, *split, sum));
     }
     match chosen {
         Some(chosen) => chosen,
@@ -93,32 +68,30 @@ pub(crate) fn least_test(
     }
 }
 
-/// The sum of a test and the ups of its parts, if both have one.
-fn up_sum(
-    inst: &Instance,
-    rows: &[Row],
-    places: &Places,
-    group: &Group,
-    test: u32,
-    weight: u64,
-) -> Option<u64>
-    requires known { IsKnown (problem_of inst.now) rows.now places.now.placed }
-    requires within { IsWithin (problem_of inst.now) (members group.now) }
-    requires there { test < vec_len inst.now.costs }
-    requires weight { weight ≡ weight_sum (problem_of inst.now) (members group.now) }
-    ensures { result ≡ step_value (problem_of inst.now) (known_up (problem_of inst.now) (rows_from rows.now)) (members group.now) test }
+/// The most to which the group of the place may be raised: the larger of its bound and the least sum.
+pub(crate) fn most_low(inst: &Instance, search: &Search, place: usize) -> u64
+    requires known { IsKnown (problem_of inst.now) search.now }
+    requires place { place < length search.now.rows.items }
+    ensures { result ≡ most_low_of (problem_of inst.now) (rows_from search.now.rows.items) (members (group_at search.now.rows.items place)) }
 {
-    let pass_part = part(inst, group, test, Answer::Pass);
-    let fail_part = part(inst, group, test, Answer::Fail);
-    match (
-        up_of(inst, rows, places, &pass_part),
-        up_of(inst, rows, places, &fail_part),
-    ) {
-        (Some(pass), Some(fail)) => {
-            Some(u64::from(inst.costs[test as usize]) * weight + (pass + fail))
-        }
-        _ => None,
+    let chosen = least_test(inst, search, place);
+    search.kept[place].bound.max(chosen.sum)
+}
+
+/// The sum of a test and the ups of its parts, if both have one.
+fn up_sum(inst: &Instance, search: &Search, place: usize, split: Split) -> Option<u64>
+    requires known { IsKnown (problem_of inst.now) search.now }
+    requires place { place < length search.now.rows.items }
+    requires parts { HasParts (problem_of inst.now) search.now.numbers (members (group_at search.now.rows.items place)) split }
+    requires there { split.test < length inst.now.costs.items }
+    ensures { result ≡ step_value (problem_of inst.now) (known_up (problem_of inst.now) (rows_from search.now.rows.items)) (members (group_at search.now.rows.items place)) split.test }
+{
+    let pass = search.counts[split.pass as usize].up;
+    let fail = search.counts[split.fail as usize].up;
+    if pass == u64::MAX || fail == u64::MAX {
+        return None;
     }
+    Some(u64::from(inst.costs[split.test as usize]) * search.kept[place].weight + (pass + fail))
 }
 
 /// The lesser of a number and a value, if there is one.
@@ -131,28 +104,18 @@ fn lesser_of(number: u64, value: Option<u64>) -> u64
     }
 }
 
-/// The least of greedy's cost and the sums of ups.
-pub(crate) fn least_up(
-    tools: &mut Tools,
-    inst: &Instance,
-    rows: &[Row],
-    places: &Places,
-    group: &Group,
-) -> u64
-    requires tools { AreTools (problem_of inst.now) tools.old }
-    requires known { IsKnown (problem_of inst.now) rows.now places.now.placed }
-    requires within { IsWithin (problem_of inst.now) (members group.now) }
-    ensures tools { AreTools (problem_of inst.now) tools.new }
-    ensures value { result ≡ least_up_of (problem_of inst.now) (rows_from rows.now) (members group.now) }
+/// The least to which the group of the place may be capped: the least of greedy's cost and the sums of
+/// ups.
+pub(crate) fn least_up(inst: &Instance, search: &Search, place: usize) -> u64
+    requires known { IsKnown (problem_of inst.now) search.now }
+    requires place { place < length search.now.rows.items }
+    ensures value { result ≡ least_up_of (problem_of inst.now) (rows_from search.now.rows.items) (members (group_at search.now.rows.items place)) }
     ensures fits { result ≤ greatest_cost }
 {
-    let weight = weight_of(inst, group);
-    let tests = inst.costs.len() as u32;
-    let mut least = greedy_of(tools, inst, group);
-    for test in 0..tests {
-        if splits(inst, group, test) {
-            least = lesser_of(least, up_sum(inst, rows, places, group, test, weight));
-        }
+    let splits = search.kept[place].splits.as_slice();
+    let mut least = search.kept[place].greedy;
+    for split in splits {
+        least = lesser_of(least, up_sum(inst, search, place, *split));
     }
     least
 }

@@ -1,89 +1,110 @@
 //! The events of a search: a group is entered, raised to what its parts' lows give, and capped by what
-//! their ups give. Each keeps the rows sound.
-ghost use Rattle.std.specs.Prelude.{◌≡◌, ◌<◌, ◌≤◌, false, length, OnOk, IfOk, [], ◌∷◌, ◌++◌, vec_len};
+//! their ups give. Each keeps the rows sound, and beside each number what its group counts.
+ghost use Rattle.std.specs.Prelude.{◌≡◌, ◌<◌, ◌≤◌, false, length, IfOk, [], ◌∷◌, ◌++◌};
 ghost use Rattle.seq_theory.specs.Graph.{is_entered, IsReal};
-ghost use Rattle.seq_theory.specs.Rows.{groups_of, no_value, least_up as least_up_of, most_low};
-ghost use Rattle.seq_huff.specs.Bounds.{greatest_cost};
+ghost use Rattle.seq_theory.specs.Rows.{groups_of, no_value, least_up as least_up_of, most_low as most_low_of};
 ghost use Rattle.seq_inst.specs.Members.{members};
 ghost use Rattle.seq_inst.specs.Instances.{problem_of};
 ghost use Rattle.seq_core.specs.RowsOf.{rows_of as rows_from};
-ghost use Rattle.seq_solo.specs.Tools.{AreTools};
-ghost use Rattle.seq_solo.specs.Known.{IsKnown, Narrows, group_at, IsClosedAt, raised_at, capped_at};
+ghost use Rattle.seq_solo.specs.Known.{IsKnown, Narrows, group_at, IsClosedAt, raised_at, capped_at, narrowed_at};
 
-use crate::choice::{least_test, least_up};
-use crate::tools::{Tools, bound_of};
-use seq_core::Places;
+use crate::choice::{least_up, most_low};
+use crate::counts::count_new;
+use crate::search::{Count, Search};
+use seq_core::Kept;
+use seq_huff::Scratch;
 use seq_inst::{Group, Instance, Row};
-use std::alloc::AllocError;
+use std::alloc::{AllocError, Global};
 
 /// Raises a row's low, if it is less.
-fn raise(rows: &mut [Row], place: usize, to: u64)
-    requires { place < length rows.old }
-    ensures { rows.new ≡ raised_at rows.old place to }
+fn raise(rows: &mut Vec<Row>, place: usize, to: u64)
+    requires { place < length rows.old.items }
+    ensures { rows.new.items ≡ raised_at rows.old.items place to }
 {
     let row = &mut rows[place];
     row.low = row.low.max(to);
 }
 
 /// Lowers a row's up, if it is greater.
-fn cap(rows: &mut [Row], place: usize, to: u64)
-    requires { place < length rows.old }
-    ensures { rows.new ≡ capped_at rows.old place to }
+fn cap(rows: &mut Vec<Row>, place: usize, to: u64)
+    requires { place < length rows.old.items }
+    ensures { rows.new.items ≡ capped_at rows.old.items place to }
 {
     let row = &mut rows[place];
     row.up = row.up.min(to);
 }
 
-/// Raises and caps a group by what is known of its parts.
-pub(crate) fn refresh(
-    tools: &mut Tools,
-    inst: &Instance,
-    rows: &mut [Row],
-    places: &Places,
-    place: usize,
-)
-    requires tools { AreTools (problem_of inst.now) tools.old }
-    requires known { IsKnown (problem_of inst.now) rows.old places.now.placed }
-    requires place { place < length rows.old }
-    ensures tools { AreTools (problem_of inst.now) tools.new }
-    ensures known { IsKnown (problem_of inst.now) rows.new places.now.placed }
-    ensures narrows { Narrows rows.old rows.new }
-    ensures closes { least_up_of (problem_of inst.now) (rows_from rows.old) (members (group_at rows.old place)) ≤ most_low (problem_of inst.now) (rows_from rows.old) (members (group_at rows.old place)) → IsClosedAt rows.new place }
+/// Raises and caps what the group of a number counts.
+fn narrow(counts: &mut Vec<Count>, number: usize, low: u64, up: u64)
+    requires { number < length counts.old.items }
+    ensures { counts.new.items ≡ narrowed_at counts.old.items number low up }
 {
-    let group = rows[place].group;
-    let chosen = least_test(tools, inst, rows, places, &group);
-    let low = bound_of(tools, inst, &group).max(chosen.sum);
-    let up = least_up(tools, inst, rows, places, &group);
-    raise(rows, place, low);
-    cap(rows, place, up);
+    let count = &mut counts[number];
+    count.low = count.low.max(low);
+    count.up = count.up.min(up);
 }
 
-/// Enters a group, and raises and caps it.
-pub(crate) fn enter(
-    tools: &mut Tools,
+/// Raises and caps a group by what is known of its parts.
+pub(crate) fn refresh(inst: &Instance, search: &mut Search, place: usize)
+    requires known { IsKnown (problem_of inst.now) search.old }
+    requires place { place < length search.old.rows.items }
+    ensures known { IsKnown (problem_of inst.now) search.new }
+    ensures narrows { Narrows search.old.rows.items search.new.rows.items }
+    ensures closes { least_up_of (problem_of inst.now) (rows_from search.old.rows.items) (members (group_at search.old.rows.items place)) ≤ most_low_of (problem_of inst.now) (rows_from search.old.rows.items) (members (group_at search.old.rows.items place)) → IsClosedAt search.new.rows.items place }
+{
+    let low = most_low(inst, search, place);
+    let up = least_up(inst, search, place);
+    let number = search.kept[place].number as usize;
+    raise(&mut search.rows, place, low);
+    cap(&mut search.rows, place, up);
+    narrow(&mut search.counts, number, low, up);
+}
+
+/// Gives a group a row of which nothing is known, with what is kept of it.
+fn add(
+    alloc: Global,
+    scratch: &mut Scratch,
     inst: &Instance,
-    rows: &mut Vec<Row>,
-    places: &mut Places,
+    search: &mut Search,
     group: &Group,
 ) -> Result<(), AllocError>
-    requires tools { AreTools (problem_of inst.now) tools.old }
-    requires known { IsKnown (problem_of inst.now) rows.old.items places.old.placed }
+    requires known { IsKnown (problem_of inst.now) search.old }
     requires real { IsReal (problem_of inst.now) (members group.now) }
-    requires new { is_entered (groups_of (rows_from rows.old.items)) (members group.now) ≡ false }
-    requires room { vec_len rows.old < places.old.room }
-    requires small { places.old.room < 32769 }
-    ensures tools { AreTools (problem_of inst.now) tools.new }
-    ensures known { IfOk result (λ _. IsKnown (problem_of inst.now) rows.new.items places.new.placed) }
-    ensures narrows { IfOk result (λ _. Narrows (rows.old.items ++ record { group = group.now; low = 0; up = no_value } ∷ []) rows.new.items) }
-    ensures room { places.new.room ≡ places.old.room }
+    requires new { is_entered (groups_of (rows_from search.old.rows.items)) (members group.now) ≡ false }
+    requires room { length search.old.rows.items < 32768 }
+    ensures known { IfOk result (λ _. IsKnown (problem_of inst.now) search.new) }
+    ensures rows { IfOk result (λ _. search.new.rows.items ≡ search.old.rows.items ++ record { group = group.now; low = 0; up = no_value } ∷ []) }
 {
-    let place = rows.len();
-    rows.push(Row {
+    let place = search.rows.len();
+    let kept = Kept::of(alloc, scratch, &mut search.numbers, inst, group)?;
+    count_new(inst, &search.numbers, &mut search.counts)?;
+    search.counts[kept.number as usize].place = Some(place as u32);
+    search.rows.push(Row {
         group: *group,
         low: 0,
         up: u64::MAX,
     })?;
-    places.add(group, place as u32);
-    refresh(tools, inst, rows.as_mut_slice(), places, place);
+    search.kept.push(kept)?;
+    Ok(())
+}
+
+/// Enters a group, and raises and caps it.
+pub(crate) fn enter(
+    alloc: Global,
+    scratch: &mut Scratch,
+    inst: &Instance,
+    search: &mut Search,
+    group: &Group,
+) -> Result<(), AllocError>
+    requires known { IsKnown (problem_of inst.now) search.old }
+    requires real { IsReal (problem_of inst.now) (members group.now) }
+    requires new { is_entered (groups_of (rows_from search.old.rows.items)) (members group.now) ≡ false }
+    requires room { length search.old.rows.items < 32768 }
+    ensures known { IfOk result (λ _. IsKnown (problem_of inst.now) search.new) }
+    ensures narrows { IfOk result (λ _. Narrows (search.old.rows.items ++ record { group = group.now; low = 0; up = no_value } ∷ []) search.new.rows.items) }
+{
+    let place = search.rows.len();
+    add(alloc, scratch, inst, search, group)?;
+    refresh(inst, search, place);
     Ok(())
 }

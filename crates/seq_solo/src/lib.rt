@@ -9,14 +9,12 @@
 
 mod alone;
 mod choice;
+mod counts;
 mod events;
 mod found;
-mod greedy;
-mod known;
-mod memo;
+mod search;
 #[cfg(test)]
 mod tests;
-mod tools;
 mod turn;
 
 pub use alone::solve_alone;

@@ -2,21 +2,21 @@
 //! one: a part that is not known is entered; else the walk goes on in a part that is open; else both
 //! parts are closed, and so the group itself closes. The groups that it came through are raised and
 //! capped from below upwards.
-ghost use Rattle.std.specs.Prelude.{◌≡◌, ◌≢◌, ◌<◌, ◌≤◌, length, IfOk, vec_len};
+ghost use Rattle.std.specs.Prelude.{◌≡◌, ◌≢◌, ◌<◌, ◌≤◌, List, ℕ, length, IfOk};
 ghost use Rattle.seq_inst.specs.Members.{members};
 ghost use Rattle.seq_inst.specs.Instances.{problem_of};
+ghost use Rattle.seq_core.specs.Numbered.{HasNumber};
 ghost use Rattle.seq_solo.specs.Known.{IsKnown, group_at, row_at};
 ghost use Rattle.seq_solo.specs.Steps.{IsStep, step_by};
 ghost use Rattle.seq_solo.specs.Parts.{IsKnowledge};
-ghost use Rattle.seq_solo.specs.Tools.{AreTools};
 ghost use Rattle.seq_solo.specs.Walks.{HasTurned};
 
 use crate::choice::least_test;
 use crate::events::{enter, refresh};
-use crate::tools::Tools;
-use seq_core::Places;
-use seq_inst::{Answer, Group, Instance, Row, is_leaf, part};
-use std::alloc::AllocError;
+use crate::search::Search;
+use seq_huff::Scratch;
+use seq_inst::{Group, Instance};
+use std::alloc::{AllocError, Global};
 
 /// What a walk does at a group.
 #[derive(Clone, Copy)]
@@ -40,19 +40,24 @@ enum Knowledge {
     Closed,
 }
 
-/// What is known of a part.
-fn knowledge_of(inst: &Instance, rows: &[Row], places: &Places, part: &Group) -> Knowledge
-    requires known { IsKnown (problem_of inst.now) rows.now places.now.placed }
-    ensures { IsKnowledge (problem_of inst.now) rows.now (members part.now) result }
+/// What is known of the part of a number. A part that has no row and an up has one goal.
+fn knowledge_of(inst: &Instance, search: &Search, number: u32) -> Knowledge
+    requires known { IsKnown (problem_of inst.now) search.now }
+    requires there { number < length search.now.numbers.groups }
+    ensures { (part : List ℕ) → HasNumber search.now.numbers part number → IsKnowledge (problem_of inst.now) search.now.rows.items part result }
 {
-    if is_leaf(inst, part) {
-        return Knowledge::Closed;
-    }
-    match places.find(part) {
-        None => Knowledge::Unknown,
+    let _ = inst;
+    let count = search.counts[number as usize];
+    match count.place {
+        None => {
+            if count.up == u64::MAX {
+                Knowledge::Unknown
+            } else {
+                Knowledge::Closed
+            }
+        }
         Some(place) => {
-            let row = rows[place as usize];
-            if row.low == row.up {
+            if count.low == count.up {
                 Knowledge::Closed
             } else {
                 Knowledge::Open {
@@ -82,67 +87,55 @@ fn step_of(pass: Group, pass_known: Knowledge, fail: Group, fail_known: Knowledg
 }
 
 /// What the walk does at a group, by its test of least sum.
-fn next_step(
-    tools: &mut Tools,
-    inst: &Instance,
-    rows: &[Row],
-    places: &Places,
-    place: usize,
-) -> Step
-    requires tools { AreTools (problem_of inst.now) tools.old }
-    requires known { IsKnown (problem_of inst.now) rows.now places.now.placed }
-    requires place { place < length rows.now }
-    ensures tools { AreTools (problem_of inst.now) tools.new }
-    ensures step { IsStep (problem_of inst.now) rows.now (members (group_at rows.now place)) result }
+fn next_step(inst: &Instance, search: &Search, place: usize) -> Step
+    requires known { IsKnown (problem_of inst.now) search.now }
+    requires place { place < length search.now.rows.items }
+    ensures { IsStep (problem_of inst.now) search.now.rows.items (members (group_at search.now.rows.items place)) result }
 {
-    let group = rows[place].group;
-    let chosen = least_test(tools, inst, rows, places, &group);
-    let pass_part = part(inst, &group, chosen.test, Answer::Pass);
-    let fail_part = part(inst, &group, chosen.test, Answer::Fail);
-    let pass_known = knowledge_of(inst, rows, places, &pass_part);
-    let fail_known = knowledge_of(inst, rows, places, &fail_part);
+    let split = least_test(inst, search, place).split;
+    let pass_part = search.numbers.group_at(split.pass);
+    let fail_part = search.numbers.group_at(split.fail);
+    let pass_known = knowledge_of(inst, search, split.pass);
+    let fail_known = knowledge_of(inst, search, split.fail);
     step_of(pass_part, pass_known, fail_part, fail_known)
 }
 
 /// One turn from a group on. The answer is the group that could not be entered, if there is one; then
 /// nothing has changed.
 pub(crate) fn turn(
-    tools: &mut Tools,
+    alloc: Global,
+    scratch: &mut Scratch,
     inst: &Instance,
     limit: u32,
-    rows: &mut Vec<Row>,
-    places: &mut Places,
+    search: &mut Search,
     place: usize,
 ) -> Result<Option<Group>, AllocError>
-    requires tools { AreTools (problem_of inst.now) tools.old }
-    requires known { IsKnown (problem_of inst.now) rows.old.items places.old.placed }
-    requires few { vec_len rows.old ≤ limit }
-    requires place { place < vec_len rows.old }
-    requires apart { (row_at rows.old.items place).low ≢ (row_at rows.old.items place).up }
-    requires room { places.old.room ≡ limit }
+    requires known { IsKnown (problem_of inst.now) search.old }
+    requires few { length search.old.rows.items ≤ limit }
+    requires place { place < length search.old.rows.items }
+    requires apart { (row_at search.old.rows.items place).low ≢ (row_at search.old.rows.items place).up }
     requires small { limit ≤ 32768 }
-    ensures tools { AreTools (problem_of inst.now) tools.new }
-    ensures turned { IfOk result (HasTurned (problem_of inst.now) limit rows.old.items rows.new.items places.new.placed) }
-    ensures room { places.new.room ≡ places.old.room }
+    ensures known { IfOk result (λ _. IsKnown (problem_of inst.now) search.new) }
+    ensures turned { IfOk result (HasTurned (problem_of inst.now) limit search.old.rows.items search.new.rows.items) }
 {
-    match next_step(tools, inst, rows.as_slice(), places, place) {
+    match next_step(inst, search, place) {
         Step::Enter { group } => {
-            if rows.len() >= limit as usize {
+            if search.rows.len() >= limit as usize {
                 return Ok(Some(group));
             }
-            enter(tools, inst, rows, places, &group)?;
-            refresh(tools, inst, rows.as_mut_slice(), places, place);
+            enter(alloc, scratch, inst, search, &group)?;
+            refresh(inst, search, place);
             Ok(None)
         }
         Step::Down { place: next } => {
-            if let Some(group) = turn(tools, inst, limit, rows, places, next)? {
+            if let Some(group) = turn(alloc, scratch, inst, limit, search, next)? {
                 return Ok(Some(group));
             }
-            refresh(tools, inst, rows.as_mut_slice(), places, place);
+            refresh(inst, search, place);
             Ok(None)
         }
         Step::Close => {
-            refresh(tools, inst, rows.as_mut_slice(), places, place);
+            refresh(inst, search, place);
             Ok(None)
         }
     }

@@ -1,72 +1,71 @@
-use Rattle.std.proofs.Common.{◌≡◌, ◌∙◌, ◌+◌, sym, ap, arith, subst, refl, Some, None}
-use Rattle.seq_theory.specs.Problem.{splits, splitting}
+use Rattle.std.proofs.Common.{◌+◌, sym, ap, subst, get_or, take, map, Some, None}
+use Rattle.std.proofs.lemmas.List.{map_more}
 use Rattle.seq_theory.specs.Bound.{step_sum}
 use Rattle.seq_theory.specs.Rows.{known_low}
-use Rattle.seq_core.specs.RowsOf.{rows_of as rows_from}
-use Rattle.seq_solo.proofs.ChoiceLaws.{ChosenSoFar, chosen-more, chosen-all, chosen-some}
 use Rattle.seq_inst.specs.Members.{members}
 use Rattle.seq_inst.specs.Instances.{problem_of}
-use Rattle.seq_huff.proofs.Written.{passing_below, passing-zero, passing-in, passing-out, passing-all}
-use Rattle.seq_solo.specs.Tools.{AreTools}
+use Rattle.seq_core.specs.declared.kept.Split.{Split}
+use Rattle.seq_core.specs.KeptOf.{HasParts}
+use Rattle.seq_core.specs.RowsOf.{rows_of as rows_from}
+use Rattle.seq_solo.specs.Known.{group_at}
+use Rattle.seq_solo.proofs.KnownLaws.{row-real, row-within}
+use Rattle.seq_solo.proofs.ChoiceLaws.{ChosenSoFar, chosen-more, chosen-all, chosen-some, chosen-either}
+use Rattle.seq_solo.proofs.CountLaws.{kept-read}
+use Rattle.seq_solo.proofs.SplitLaws.{split-at, tests-all}
 use Rattle.seq_solo.proofs.choice.least_test.Goals as goal
-use Rattle.seq_solo.proofs.choice.least_test.Goals.{then-splits, else-splits}
 
-pub loop-test-init : goal.loop-test-init
-loop-test-init c =
+pub low_sum-sum-requires-clause-parts : goal.low_sum-sum-requires-clause-parts
+low_sum-sum-requires-clause-parts c =
+    let s = c.args.search.now in
     let p = problem_of c.args.inst.now in
-    let xs = members c.args.group.now in
-    record { tools = c.requires.tools; chosen = subst (λ l. ChosenSoFar (step_sum p (known_low p (rows_from c.args.rows.now)) xs) l None) (sym (passing-zero (splits p xs))) refl }
+    let g = members (group_at s.rows.items c.args.place) in
+    let kept = kept-read p s.numbers s.rows.items s.kept.items s.counts.items c.requires.known c.args.place c.index.result.now c.requires.place c.index.ensures in
+    (split-at p s.numbers g c.index.result.now c.as_slice-splits.result.now kept c.as_slice-splits.ensures.value c.loop-split.split-index _ c.loop-split-test.true).parts
 
-pub loop-test-preserved : goal.loop-test-preserved
-loop-test-preserved c =
+pub low_sum-sum-requires-clause-there : goal.low_sum-sum-requires-clause-there
+low_sum-sum-requires-clause-there c =
+    let s = c.args.search.now in
     let p = problem_of c.args.inst.now in
-    let xs = members c.args.group.now in
-    let f = step_sum p (known_low p (rows_from c.args.rows.now)) xs in
-    let more = passing_below (splits p xs) (c.loop-test.test + 1) in
-    let i : ChosenSoFar f (passing_below (splits p xs) c.loop-test.test) c.loop-test.chosen = c.loop-test.invariant.chosen in
-    elim c.if-splits.branch [
-      | then-splits w ↦
-          (let next = chosen-more f (passing_below (splits p xs) c.loop-test.test) more c.loop-test.test w.low_sum-sum.result c.loop-test.chosen i (passing-in (splits p xs) c.loop-test.test (sym c.splits.ensures ∙ w.if-splits.true)) w.low_sum-sum.ensures.value in
-          record {
-            tools = subst (AreTools p) (sym w.tools-is) w.low_sum-sum.ensures.tools;
-            chosen = subst (ChosenSoFar f more) (ap (λ n. Some n) (sym w.choose.ensures) ∙ sym w.chosen-is) next;
-          })
-      | else-splits w ↦ record {
-        tools = subst (AreTools p) (sym w.tools-is) c.loop-test.invariant.tools;
-        chosen =
-            subst (ChosenSoFar f more) (sym w.chosen-is)
-            (subst (λ l. ChosenSoFar f l c.loop-test.chosen) (sym (passing-out (splits p xs) c.loop-test.test (sym c.splits.ensures ∙ w.if-splits.false))) i);
-      }
-    ]
+    let g = members (group_at s.rows.items c.args.place) in
+    let kept = kept-read p s.numbers s.rows.items s.kept.items s.counts.items c.requires.known c.args.place c.index.result.now c.requires.place c.index.ensures in
+    (split-at p s.numbers g c.index.result.now c.as_slice-splits.result.now kept c.as_slice-splits.ensures.value c.loop-split.split-index _ c.loop-split-test.true).there
+
+pub loop-split-preserved : goal.loop-split-preserved
+loop-split-preserved c =
+    let s = c.args.search.now in
+    let p = problem_of c.args.inst.now in
+    let g = members (group_at s.rows.items c.args.place) in
+    let kept = kept-read p s.numbers s.rows.items s.kept.items s.counts.items c.requires.known c.args.place c.index.result.now c.requires.place c.index.ensures in
+    let xs = c.as_slice-splits.result.now in
+    let i = c.loop-split.split-index in
+    let split : Split = get_or xs i (record { test = 0; pass = 0; fail = 0 }) in
+    let f = step_sum p (known_low p (rows_from s.rows.items)) g in
+    let at = split-at p s.numbers g c.index.result.now xs kept c.as_slice-splits.ensures.value i (record { test = 0; pass = 0; fail = 0 }) c.loop-split-test.true in
+    let more = map (λ (x : Split). x.test) (take (i + 1) xs) in
+    record {
+      chosen = subst (ChosenSoFar f more) (ap (λ n. Some n) (sym c.choose.ensures))
+          (chosen-more f (map (λ (x : Split). x.test) (take i xs)) more split c.low_sum-sum.result c.loop-split.chosen c.loop-split.invariant.chosen (map_more (λ (x : Split). x.test) xs i (record { test = 0; pass = 0; fail = 0 }) c.loop-split-test.true) c.low_sum-sum.ensures);
+      parts = chosen-either (λ (x : Split). HasParts p s.numbers g x) c.loop-split.chosen split c.low_sum-sum.result c.choose.result c.loop-split.invariant.parts at.parts c.choose.ensures;
+    }
 
 pub unreachable-requires : goal.unreachable-requires
 unreachable-requires c =
+    let s = c.args.search.now in
     let p = problem_of c.args.inst.now in
-    let xs = members c.args.group.now in
-    let f = step_sum p (known_low p (rows_from c.args.rows.now)) xs in
-    let n = c.len-tests.ensures ∙ c.args.inst.now.costs.ok.0 in
-    let e : c.loop-test.test ≡ p.tests = omega arith in
-    let i : ChosenSoFar f (splitting p xs) c.loop-test.chosen = subst (λ l. ChosenSoFar f l c.loop-test.chosen) (ap (passing_below (splits p xs)) e ∙ passing-all (splits p xs) p.tests) c.loop-test.invariant.chosen in
-    chosen-some p f xs c.args.inst.now.valid.told c.requires.within c.requires.more (subst (ChosenSoFar f (splitting p xs)) c.in-None.is i)
+    let g = members (group_at s.rows.items c.args.place) in
+    let kept = kept-read p s.numbers s.rows.items s.kept.items s.counts.items c.requires.known c.args.place c.index.result.now c.requires.place c.index.ensures in
+    let f = step_sum p (known_low p (rows_from s.rows.items)) g in
+    let all = tests-all p s.numbers g c.index.result.now c.as_slice-splits.result.now kept c.as_slice-splits.ensures.value c.loop-split.split-index c.loop-split-test.false in
+    chosen-some p f g c.args.inst.now.valid.told (row-within p s.rows.items c.requires.known.rows_are c.args.place c.requires.place) (row-real p s.rows.items c.requires.known.rows_are c.args.place c.requires.place).goals
+    (subst (λ l. ChosenSoFar f l None) all (subst (ChosenSoFar f (map (λ (x : Split). x.test) (take c.loop-split.split-index c.as_slice-splits.result.now))) c.in-None.is c.loop-split.invariant.chosen))
 
 pub returns-clause-test : goal.returns-clause-test
 returns-clause-test c =
+    let s = c.args.search.now in
     let p = problem_of c.args.inst.now in
-    let xs = members c.args.group.now in
-    let f = step_sum p (known_low p (rows_from c.args.rows.now)) xs in
-    let n = c.len-tests.ensures ∙ c.args.inst.now.costs.ok.0 in
-    let e : c.loop-test.test ≡ p.tests = omega arith in
-    let i : ChosenSoFar f (splitting p xs) c.loop-test.chosen = subst (λ l. ChosenSoFar f l c.loop-test.chosen) (ap (passing_below (splits p xs)) e ∙ passing-all (splits p xs) p.tests) c.loop-test.invariant.chosen in
-    let all = chosen-all f (splitting p xs) c.in-Some.chosen (subst (ChosenSoFar f (splitting p xs)) c.in-Some.is i) in
-    all.test
-
-pub returns-clause-sum : goal.returns-clause-sum
-returns-clause-sum c =
-    let p = problem_of c.args.inst.now in
-    let xs = members c.args.group.now in
-    let f = step_sum p (known_low p (rows_from c.args.rows.now)) xs in
-    let n = c.len-tests.ensures ∙ c.args.inst.now.costs.ok.0 in
-    let e : c.loop-test.test ≡ p.tests = omega arith in
-    let i : ChosenSoFar f (splitting p xs) c.loop-test.chosen = subst (λ l. ChosenSoFar f l c.loop-test.chosen) (ap (passing_below (splits p xs)) e ∙ passing-all (splits p xs) p.tests) c.loop-test.invariant.chosen in
-    let all = chosen-all f (splitting p xs) c.in-Some.chosen (subst (ChosenSoFar f (splitting p xs)) c.in-Some.is i) in
-    all.sum
+    let g = members (group_at s.rows.items c.args.place) in
+    let kept = kept-read p s.numbers s.rows.items s.kept.items s.counts.items c.requires.known c.args.place c.index.result.now c.requires.place c.index.ensures in
+    let f = step_sum p (known_low p (rows_from s.rows.items)) g in
+    let tests = map (λ (x : Split). x.test) (take c.loop-split.split-index c.as_slice-splits.result.now) in
+    let all = tests-all p s.numbers g c.index.result.now c.as_slice-splits.result.now kept c.as_slice-splits.ensures.value c.loop-split.split-index c.loop-split-test.false in
+    (chosen-all f _ c.in-Some.chosen (subst (λ l. ChosenSoFar f l (Some c.in-Some.chosen)) all (subst (ChosenSoFar f tests) c.in-Some.is c.loop-split.invariant.chosen))).test

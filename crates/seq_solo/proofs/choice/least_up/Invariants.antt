@@ -1,14 +1,18 @@
-use Rattle.std.proofs.Common.{◌≡◌, ◌∷◌}
+use Rattle.std.proofs.Common.{◌≡◌, ◌∷◌, map, take}
 use Rattle.std.specs.List.{filter_map}
-use Rattle.seq_theory.specs.Problem.{splits, least_of}
+use Rattle.seq_theory.specs.Problem.{least_of}
 use Rattle.seq_theory.specs.Greedy.{greedy_cost}
 use Rattle.seq_theory.specs.Graph.{step_value}
 use Rattle.seq_theory.specs.Rows.{known_up}
 use Rattle.seq_inst.specs.Members.{members}
 use Rattle.seq_inst.specs.Instances.{problem_of}
-use Rattle.seq_huff.proofs.Written.{passing_below}
 use Rattle.seq_core.specs.RowsOf.{rows_of as rows_from}
+use Rattle.seq_solo.specs.Known.{group_at}
 use Rattle.seq_solo.proofs.choice.least_up.Given as goal
 
-abbrev pub invariant-loop-test : goal.invariant-loop-test
-invariant-loop-test l = l.least ≡ least_of (greedy_cost (problem_of l.inst) (members l.group) ∷ filter_map (step_value (problem_of l.inst) (known_up (problem_of l.inst) (rows_from l.rows)) (members l.group)) (passing_below (splits (problem_of l.inst) (members l.group)) l.test))
+abbrev pub invariant-loop-split : goal.invariant-loop-split
+invariant-loop-split l =
+    l.least
+    ≡ least_of
+    (greedy_cost (problem_of l.inst) (members (group_at l.search.rows.items l.place))
+    ∷ filter_map (step_value (problem_of l.inst) (known_up (problem_of l.inst) (rows_from l.search.rows.items)) (members (group_at l.search.rows.items l.place))) (map (λ s. s.test) (take l.split-index l.splits)))

@@ -1,25 +1,37 @@
+use Rattle.std.proofs.Common.{◌∙◌, sym, ap, subst, arith}
+use Rattle.std.proofs.lemmas.Option.{slice_get_within}
 use Rattle.seq_inst.specs.Instances.{problem_of}
-use Rattle.seq_solo.proofs.KnownLaws.{row-real, row-within}
-use Rattle.seq_solo.proofs.EventLaws.{refresh-holds}
+use Rattle.seq_solo.specs.Known.{AreKnown, capped_at, raised_at}
+use Rattle.seq_solo.proofs.CountLaws.{kept-read, counts-long}
+use Rattle.seq_solo.proofs.CountChanges.{narrowed-known}
+use Rattle.seq_solo.proofs.EventLaws.{IsRefreshed, refresh-holds}
 use Rattle.seq_solo.proofs.events.refresh.Goals as goal
 
-pub least_test-chosen-requires-clause-within : goal.least_test-chosen-requires-clause-within
-least_test-chosen-requires-clause-within c = row-within (problem_of c.args.inst.now) c.args.rows.now c.args.places.now.placed c.requires.known c.args.place c.requires.place
-
-pub least_test-chosen-requires-clause-more : goal.least_test-chosen-requires-clause-more
-least_test-chosen-requires-clause-more c = (row-real (problem_of c.args.inst.now) c.args.rows.now c.args.places.now.placed c.requires.known c.args.place c.requires.place).goals
-
-pub bound_of-requires-clause-within : goal.bound_of-requires-clause-within
-bound_of-requires-clause-within c = row-within (problem_of c.args.inst.now) c.args.rows.now c.args.places.now.placed c.requires.known c.args.place c.requires.place
-
-pub least_up-up-requires-clause-within : goal.least_up-up-requires-clause-within
-least_up-up-requires-clause-within c = row-within (problem_of c.args.inst.now) c.args.rows.now c.args.places.now.placed c.requires.known c.args.place c.requires.place
+pub narrow-requires : goal.narrow-requires
+narrow-requires c =
+    let s = c.args.search.now in
+    let p = problem_of c.args.inst.now in
+    let kept = kept-read p s.numbers s.rows.items s.kept.items s.counts.items c.requires.known c.args.place c.index.result.now c.requires.place c.index.ensures in
+    let within = slice_get_within s.numbers.groups c.index.result.now.number _ kept.number in
+    let long = counts-long p s.numbers s.rows.items s.kept.items s.counts.items c.requires.known in
+    omega arith
 
 pub returns-clause-known : goal.returns-clause-known
-returns-clause-known c = (refresh-holds c.args.inst.now c.args.rows.now c.raise.new.rows c.cap.new.rows c.args.places.now.placed c.args.place c.least_test-chosen.result.test c.least_test-chosen.result.sum c.bound_of.result c.max-low.result c.least_up-up.result c.requires.known c.requires.place c.least_test-chosen.ensures.test c.least_test-chosen.ensures.sum c.bound_of.ensures.value c.max-low.ensures c.least_up-up.ensures.value c.least_up-up.ensures.fits c.raise.ensures c.cap.ensures).known
+returns-clause-known c =
+    let s = c.args.search.now in
+    let p = problem_of c.args.inst.now in
+    let rows = s.rows.items in
+    let place = c.args.place in
+    let low = c.most_low-low.result in
+    let up = c.least_up-up.result in
+    let is = c.cap.ensures ∙ ap (λ l. capped_at l place up) c.raise.ensures in
+    let refreshed = refresh-holds c.args.inst.now rows c.raise.new.rows.items c.cap.new.rows.items place low up c.requires.known.rows_are c.requires.place c.most_low-low.ensures c.least_up-up.ensures.value c.least_up-up.ensures.fits c.raise.ensures c.cap.ensures in
+    subst (λ l. AreKnown p s.numbers l s.kept.items c.narrow.new.counts.items) (sym is)
+    (subst (λ l. AreKnown p s.numbers (capped_at (raised_at rows place low) place up) s.kept.items l) (sym c.narrow.ensures)
+    (narrowed-known c.args.inst.now s.numbers rows s.kept.items s.counts.items c.requires.known place c.requires.place c.index.result.now c.index.ensures low up (subst (λ l. IsRefreshed p rows l place) is refreshed)))
 
 pub returns-clause-narrows : goal.returns-clause-narrows
-returns-clause-narrows c = (refresh-holds c.args.inst.now c.args.rows.now c.raise.new.rows c.cap.new.rows c.args.places.now.placed c.args.place c.least_test-chosen.result.test c.least_test-chosen.result.sum c.bound_of.result c.max-low.result c.least_up-up.result c.requires.known c.requires.place c.least_test-chosen.ensures.test c.least_test-chosen.ensures.sum c.bound_of.ensures.value c.max-low.ensures c.least_up-up.ensures.value c.least_up-up.ensures.fits c.raise.ensures c.cap.ensures).narrows
+returns-clause-narrows c = (refresh-holds c.args.inst.now c.args.search.now.rows.items c.raise.new.rows.items c.cap.new.rows.items c.args.place c.most_low-low.result c.least_up-up.result c.requires.known.rows_are c.requires.place c.most_low-low.ensures c.least_up-up.ensures.value c.least_up-up.ensures.fits c.raise.ensures c.cap.ensures).narrows
 
 pub returns-clause-closes : goal.returns-clause-closes
-returns-clause-closes c = (refresh-holds c.args.inst.now c.args.rows.now c.raise.new.rows c.cap.new.rows c.args.places.now.placed c.args.place c.least_test-chosen.result.test c.least_test-chosen.result.sum c.bound_of.result c.max-low.result c.least_up-up.result c.requires.known c.requires.place c.least_test-chosen.ensures.test c.least_test-chosen.ensures.sum c.bound_of.ensures.value c.max-low.ensures c.least_up-up.ensures.value c.least_up-up.ensures.fits c.raise.ensures c.cap.ensures).closes
+returns-clause-closes c = (refresh-holds c.args.inst.now c.args.search.now.rows.items c.raise.new.rows.items c.cap.new.rows.items c.args.place c.most_low-low.result c.least_up-up.result c.requires.known.rows_are c.requires.place c.most_low-low.ensures c.least_up-up.ensures.value c.least_up-up.ensures.fits c.raise.ensures c.cap.ensures).closes

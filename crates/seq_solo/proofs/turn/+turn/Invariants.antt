@@ -4,4 +4,4 @@ use Rattle.seq_solo.specs.Known.{group_at}
 use Rattle.seq_solo.proofs.turn.+turn.Given as goal
 
 abbrev pub decreases-turn : goal.decreases-turn
-decreases-turn l = length (members (group_at l.rows.now.items l.place))
+decreases-turn l = length (members (group_at l.search.now.rows.items l.place))

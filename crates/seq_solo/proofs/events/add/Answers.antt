@@ -1,0 +1,53 @@
+use Rattle.std.proofs.Common.{◌∙◌, ◌∷◌, ◌++◌, [], length, set, sym, ap, subst, arith, Some}
+use Rattle.std.proofs.lemmas.List.{get_or_read, length-map}
+use Rattle.std.proofs.lemmas.Option.{slice_get_within}
+use Rattle.seq_theory.specs.Rows.{no_value}
+use Rattle.seq_theory.proofs.RowLaws.{wanted-within}
+use Rattle.seq_inst.specs.Instances.{problem_of}
+use Rattle.seq_inst.specs.Members.{members}
+use Rattle.seq_inst.specs.declared.outcome.Row.{Row}
+use Rattle.seq_solo.specs.declared.search.Count.{Count}
+use Rattle.seq_solo.specs.Known.{AreKnown, count_of, no_count}
+use Rattle.seq_solo.proofs.NumberLaws.{keeps-long}
+use Rattle.seq_solo.proofs.CountLaws.{counts-long}
+use Rattle.seq_solo.proofs.CountChanges.{counts-grown, added-known}
+use Rattle.seq_solo.proofs.events.add.Goals as goal
+
+pub of-requires-clause-within : goal.of-requires-clause-within
+of-requires-clause-within c = wanted-within (problem_of c.args.inst.now) (members c.args.group.now) c.requires.real.wanted
+
+pub count_new-requires-clause-fewer : goal.count_new-requires-clause-fewer
+count_new-requires-clause-fewer c =
+    let s = c.args.search.now in
+    let long = counts-long (problem_of c.args.inst.now) s.numbers s.rows.items s.kept.items s.counts.items c.requires.known in
+    let more = keeps-long s.numbers.groups c.of.new.numbers.groups c.in_ok-kept.ensures.keeps in
+    omega arith
+
+pub index_mut-requires : goal.index_mut-requires
+index_mut-requires c =
+    let s = c.args.search.now in
+    let p = problem_of c.args.inst.now in
+    let grown = counts-grown c.args.inst.now s.numbers c.of.new.numbers s.rows.items s.kept.items s.counts.items c.requires.known c.in_ok-kept.ensures.numbers c.in_ok-kept.ensures.keeps c.count_new.new.counts.items c.in_ok-count_new.ensures in
+    let long = ap length grown ∙ length-map c.of.new.numbers.groups (count_of p s.rows.items) in
+    let within = slice_get_within c.of.new.numbers.groups c.in_ok-kept.kept.number _ c.in_ok-kept.ensures.kept.number in
+    let n = c.count_new.new.counts.ok.0 in
+    omega arith
+
+pub returns-clause-known : goal.returns-clause-known
+returns-clause-known c =
+    let s = c.args.search.now in
+    let p = problem_of c.args.inst.now in
+    let g = c.args.group.now in
+    let v = c.of.new.numbers in
+    let k = c.in_ok-kept.kept in
+    let place = c.len-place.result in
+    let more = c.count_new.new.counts.items in
+    let row : Row = record { group = g; low = 0; up = no_value } in
+    let grown = counts-grown c.args.inst.now s.numbers v s.rows.items s.kept.items s.counts.items c.requires.known c.in_ok-kept.ensures.numbers c.in_ok-kept.ensures.keeps more c.in_ok-count_new.ensures in
+    let long = ap length grown ∙ length-map v.groups (count_of p s.rows.items) in
+    let within = slice_get_within v.groups k.number _ c.in_ok-kept.ensures.kept.number in
+    let read = get_or_read more k.number c.index_mut.result.now (omega arith) c.index_mut.ensures.value no_count in
+    subst (λ l. AreKnown p v l c.push-2.new.self.items (set more k.number (record { low = c.index_mut.result.now.low; up = c.index_mut.result.now.up; place = Some place }))) (sym c.in_ok-push.ensures.items)
+    (subst (λ l. AreKnown p v (s.rows.items ++ row ∷ []) l (set more k.number (record { low = c.index_mut.result.now.low; up = c.index_mut.result.now.up; place = Some place }))) (sym c.in_ok-push-2.ensures.items)
+    (subst (λ (x : Count). AreKnown p v (s.rows.items ++ row ∷ []) (s.kept.items ++ k ∷ []) (set more k.number (record { low = x.low; up = x.up; place = Some place }))) (sym read)
+    (added-known c.args.inst.now s.numbers v s.rows.items s.kept.items s.counts.items c.requires.known c.in_ok-kept.ensures.numbers c.in_ok-kept.ensures.keeps g k more place c.requires.real c.requires.new c.in_ok-kept.ensures.kept c.in_ok-count_new.ensures (c.len-place.ensures ∙ s.rows.ok.0))))

@@ -1,0 +1,46 @@
+//! What a search knows. Each group that was met has a number, and beside the numbers stands what each
+//! group counts. A group that was entered has a row, and beside the rows stands what is kept of each
+//! group. So the sum of a test over what its parts count is two look-ups by number.
+ghost use Rattle.seq_theory.specs.Problem.{Problem};
+ghost use Rattle.seq_solo.specs.Known.{IsKnown};
+ghost use Rattle.std.specs.Prelude.{◌≡◌, []};
+
+use seq_core::{Kept, Numbers};
+use seq_inst::Row;
+use std::alloc::Global;
+
+/// What a group counts for a low and for an up, and the place of its row, if it has one.
+#[derive(Clone, Copy)]
+pub(crate) struct Count {
+    pub(crate) low: u64,
+    /// `u64::MAX` where no upper bound is known.
+    pub(crate) up: u64,
+    pub(crate) place: Option<u32>,
+}
+
+/// The numbers of the groups, the entered groups with what is kept of each, and what each group counts.
+#[derive(Drop)]
+pub(crate) struct Search {
+    pub(crate) numbers: Numbers,
+    /// The entered groups in the order of entering.
+    pub(crate) rows: Vec<Row>,
+    /// By place.
+    pub(crate) kept: Vec<Kept>,
+    /// By number.
+    pub(crate) counts: Vec<Count>,
+}
+
+impl Search {
+    /// Nothing is known yet.
+    pub(crate) fn new(alloc: Global) -> Search
+        ensures rows { result.rows.items ≡ [] }
+        ensures known { (p : Problem) → IsKnown p result }
+    {
+        Search {
+            numbers: Numbers::new(alloc),
+            rows: Vec::new(alloc),
+            kept: Vec::new(alloc),
+            counts: Vec::new(alloc),
+        }
+    }
+}
