@@ -1,5 +1,5 @@
 -- What is judged of a certificate is what is due.
-use Rattle.std.proofs.Common.{◌≡◌, ℕ, ◌≤◌, List, length, inr, subst}
+use Rattle.std.proofs.Common.{◌≡◌, ℕ, ◌≤◌, List, length, inr}
 use Rattle.sig_edge.specs.Shelf.{Holds, HoldsWhole}
 use Rattle.sig_flat.specs.declared.flat.Flat.{Flat}
 use Rattle.sig_matrix.specs.declared.matrix.Matrix.{Matrix}

@@ -23,12 +23,12 @@ weights-in m k (x ∷ xs) = elim (cases_Bool (nat_eq (class_of (system_of m) x) 
   | inr other ↦ rw other (weights-in m k xs)
 ]
 
-length-count_up : (from n : ℕ) → length (count_up from n) ≡ n
+pub length-count_up : (from n : ℕ) → length (count_up from n) ≡ n
 length-count_up from zero = refl
 length-count_up from (suc n) = ap suc (length-count_up (suc from) n)
 
 -- a property of each number of a range is one of each item made from it
-All-made : {X : Type 0} (P : X → Type 0) (f : ℕ → X) (from n : ℕ) → ((k : ℕ) → from ≤ k → k < from + n → P (f k)) → All P (map f (count_up from n))
+pub All-made : {X : Type 0} (P : X → Type 0) (f : ℕ → X) (from n : ℕ) → ((k : ℕ) → from ≤ k → k < from + n → P (f k)) → All P (map f (count_up from n))
 All-made P f from zero h = All-nil P
 All-made P f from (suc n) h = All-cons P (f from) (map f (count_up (suc from) n)) (h from (omega arith) (omega arith)) (All-made P f (suc from) n (λ k le lt. h k (omega arith) (omega arith)))
 

@@ -5,3 +5,6 @@ pub mod ValueLaws
 pub mod PlanLaws
 pub mod StandLaws
 pub mod DueLaws
+pub mod ModelNames
+pub mod PathLabels
+pub mod PrintableLaws

@@ -17,7 +17,7 @@ use Rattle.sig_lines.specs.declared.labels.Labels.{Labels}
 use Rattle.seq_finish.specs.Outcomes.{IsRightOutcome}
 use Rattle.seq_cert.specs.Text.{report_bytes}
 use Rattle.seq_cert.specs.OutcomeReport.{report_from}
-use Rattle.seq_shown.specs.Laws.{ArePrintable, IsAccepted}
+use Rattle.seq_shown.specs.Laws.{IsAccepted}
 
 -- all states of the system
 abbrev pub all_states : System → List ℕ
@@ -60,8 +60,8 @@ pub record IsSolution (sys : System) (labels : Labels) (groups : ℕ) (verdict :
   pub stands : Stands sys outcome
   pub verdict_is : outcome.verdict ≡ verdict
   pub report : text ≡ report_bytes (report_from problem outcome labels)
-  -- the checker accepts it, where its labels can be printed, as labels that are made of names can
-  pub accepted : ArePrintable labels → IsAccepted problem labels (report_from problem outcome labels)
+  -- the checker accepts it
+  pub accepted : IsAccepted problem labels (report_from problem outcome labels)
 
 -- why a system isn't solved: it has more than 512 ambiguity groups
 abbrev pub IsUnsolved : System → Refusal → Type 0

@@ -5,6 +5,8 @@ ghost use Rattle.sig_flat.specs.Valid.{IsValid as IsValidFlat};
 ghost use Rattle.sig_matrix.specs.Valid.{IsValid};
 ghost use Rattle.sig_matrix.specs.Detection.{IsMatrixOf, system_of};
 ghost use Rattle.sig_types.specs.Refused.{TellsFirst};
+ghost use Rattle.sig_classes.specs.Labels.{labels_from};
+ghost use Rattle.seq_shown.specs.Laws.{ArePrintable};
 ghost use Rattle.teams_run.specs.Accepted.{IsMatrixOfText, mode_number, refusals};
 ghost use Rattle.teams_run.specs.Ready.{IsPrepared};
 ghost use Rattle.teams_run.specs.Solved.{IsLimit, IsUnsolved, TellsUnsolved};
@@ -17,6 +19,7 @@ use crate::preparing::{Prepared, prepare};
 use crate::solving::{Solution, solution_of};
 use crate::status::Status;
 use seq_inst::Verdict;
+use seq_shown::labels_print;
 use sig_classes::classes_of;
 use sig_figures::{figures_of, figures_text};
 use sig_flat::Flat;
@@ -49,6 +52,15 @@ pub fn mode_name(plan: &Plan) -> &str
     mode_word(plan.mode.as_ref())
 }
 
+/// The labels of an accepted model are made of its names, so a report can show them.
+fn accepted_labels_print(plan: &Plan, content: &[u8], flat: &Flat, matrix: &Matrix)
+    requires text { IsMatrixOfText content.now plan.now.mode flat.now matrix.now }
+    requires valid { IsValid matrix.now }
+    ensures { ArePrintable (labels_from matrix.now (mode_word plan.now.mode)) }
+{
+    labels_print();
+}
+
 /// The matrix of the text, in the plan's mode.
 pub fn accept(alloc: Global, plan: &Plan, content: &[u8]) -> Result<Accepted, ModelFault>
     ensures text { IfOk result (λ a. IsMatrixOfText content.now plan.now.mode a.flat a.matrix) }
@@ -57,6 +69,7 @@ pub fn accept(alloc: Global, plan: &Plan, content: &[u8]) -> Result<Accepted, Mo
     ensures mode { IfOk result (λ a. a.mode ≡ mode_number a.flat.modes plan.now.mode) }
     ensures matrix { IfOk result (λ a. IsMatrixOf a.flat a.mode a.matrix) }
     ensures valid { IfOk result (λ a. IsValid a.matrix) }
+    ensures labels { IfOk result (λ a. ArePrintable (labels_from a.matrix (mode_word plan.now.mode))) }
     ensures refused { IfErr result (TellsFirst (refusals content.now plan.now.mode)) }
 {
     let flat = match flat_of_text(alloc, content) {
@@ -65,6 +78,7 @@ pub fn accept(alloc: Global, plan: &Plan, content: &[u8]) -> Result<Accepted, Mo
     };
     let mode = mode_of(&flat, plan.mode.as_ref())?;
     let matrix = matrix_of(alloc, &flat, mode)?;
+    accepted_labels_print(plan, content, &flat, &matrix);
     Ok(Accepted { flat, matrix, mode })
 }
 
@@ -108,6 +122,7 @@ fn solve_due(alloc: Global, plan: &Plan, flat: &Flat, matrix: &Matrix) -> Result
     requires action { plan.now.action ≡ Action.Solve }
     requires limit { IsLimit plan.now.groups }
     requires valid { IsValid matrix.now }
+    requires labels { ArePrintable (labels_from matrix.now (mode_word plan.now.mode)) }
     ensures text { IfOk result (λ due. IsTextFor Action.Solve plan.now flat.now matrix.now due.status due.text.items) }
     ensures unsolved { IfErr result (TellsUnsolved (system_of matrix.now)) }
 {
@@ -137,6 +152,7 @@ fn action_due(alloc: Global, plan: &Plan, accepted: &Accepted) -> Result<Due, Mo
     requires mode { accepted.now.mode ≡ mode_number accepted.now.flat.modes plan.now.mode }
     requires matrix { IsMatrixOf accepted.now.flat accepted.now.mode accepted.now.matrix }
     requires valid { IsValid accepted.now.matrix }
+    requires labels { ArePrintable (labels_from accepted.now.matrix (mode_word plan.now.mode)) }
     ensures text { IfOk result (λ due. IsTextFor plan.now.action plan.now accepted.now.flat accepted.now.matrix due.status due.text.items) }
     ensures unfit { IfErr result (TellsUnfit plan.now (system_of accepted.now.matrix)) }
 {

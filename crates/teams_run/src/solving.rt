@@ -8,6 +8,7 @@ ghost use Rattle.sig_matrix.specs.Valid.{IsValid};
 ghost use Rattle.sig_matrix.specs.Detection.{system_of};
 ghost use Rattle.sig_classes.specs.Labels.{labels_from};
 ghost use Rattle.seq_finish.specs.Outcomes.{IsRightOutcome};
+ghost use Rattle.seq_shown.specs.Laws.{ArePrintable};
 ghost use Rattle.teams_run.specs.Ready.{IsPrepared};
 ghost use Rattle.teams_run.specs.Solved.{IsSolution, Stands, IsLimit};
 
@@ -60,6 +61,7 @@ pub fn solution_of(
 ) -> Result<Solution, AllocError>
     requires valid { IsValid matrix.now }
     requires prepared { IsPrepared matrix.now mode.now prepared.now }
+    requires printable { ArePrintable (labels_from matrix.now mode.now) }
     requires limit { IsLimit groups }
     ensures { IfOk result (λ s. IsSolution (system_of matrix.now) (labels_from matrix.now mode.now) groups s.verdict s.text.items) }
 {
