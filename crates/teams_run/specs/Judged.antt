@@ -1,8 +1,8 @@
 -- What the check of a certificate says of a system.
-use Rattle.std.specs.Prelude.{◌≡◌, ⊤, ◌⊎◌, ℕ, ◌≤◌, List, ◌++◌, codes, decimal, Some, Ok, Err}
+use Rattle.std.specs.Prelude.{◌≡◌, ⊤, ◌⊎◌, ℕ, ◌≤◌, List, length, ◌++◌, codes, decimal, Some, Ok, Err}
 use Rattle.seq_theory.specs.Problem.{Problem, all_classes}
 use Rattle.seq_theory.specs.Tree.{Tree}
-use Rattle.seq_theory.specs.States.{System, IsOfClasses}
+use Rattle.seq_theory.specs.States.{System, firsts, IsOfClasses}
 use Rattle.seq_inst.specs.declared.outcome.Verdict.TheVariants.{Optimal}
 use Rattle.sig_lines.specs.declared.labels.Labels.{Labels}
 use Rattle.seq_cert.specs.declared.report.Report.{Report}
@@ -74,8 +74,10 @@ bad_word C09 = codes "C09"
 abbrev pub rejected_line : BadLine → List ℕ
 rejected_line bad = codes "rejected line " ++ (decimal bad.line ++ (codes " " ++ (bad_word bad.code ++ codes "\n")))
 
--- the certificate is accepted for the system, and shows a right strategy and its cost between a proven low and the least
+-- the certificate is accepted for the system, which has at most 512 ambiguity groups, and shows a right strategy and a low of
+-- its cost
 pub record IsAccepted (sys : System) (labels : Labels) (cert text : List ℕ) : Type 0 where
+  pub few : length (firsts sys) ≤ 512
   pub problem : Problem
   pub classes : IsOfClasses sys problem
   pub report : Report
@@ -83,8 +85,9 @@ pub record IsAccepted (sys : System) (labels : Labels) (cert text : List ℕ) : 
   pub shows : ShowsStates sys problem report
   pub line : text ≡ accepted_line report
 
--- the certificate has a first bad line, which the text names
+-- the system has at most 512 ambiguity groups, and the certificate has a first bad line, which the text names
 pub record IsRejected (sys : System) (labels : Labels) (cert text : List ℕ) : Type 0 where
+  pub few : length (firsts sys) ≤ 512
   pub problem : Problem
   pub classes : IsOfClasses sys problem
   pub bad : BadLine

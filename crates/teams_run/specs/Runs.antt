@@ -7,7 +7,7 @@ use Rattle.teams_run.specs.declared.status.Status.{Status}
 use Rattle.teams_run.specs.declared.status.Status.TheVariants.{Done, Bounded, Rejected, ModelRefused, WriteFault}
 use Rattle.teams_run.specs.declared.plan.Action.TheVariants.{Check}
 use Rattle.teams_run.specs.Solved.{IsLimit}
-use Rattle.teams_run.specs.Texts.{IsDue, cert_name, cert_limit}
+use Rattle.teams_run.specs.Texts.{IsDue, IsFit, cert_name, cert_limit}
 
 -- the limit of a model text in bytes
 abbrev pub model_limit : ℕ
@@ -44,13 +44,21 @@ IsSilent ModelRefused = ⊥
 IsSilent WriteFault = ⊥
 IsSilent other = Unit {0}
 
--- where the shelf tells, the model's file isn't held, or the certificate's, which `check` fetches after it
+-- the plan is to check a certificate, and the model that is held is accepted, so that the certificate is fetched
+pub record WantsCert (plan : Plan) (holds : Holds) : Type 0 where
+  pub action : plan.action ≡ Check
+  pub content : List ℕ
+  pub held : HoldsWhole holds plan.model content
+  pub within : length content ≤ model_limit
+  pub fit : IsFit plan content
+
+-- where the shelf tells, the model's file isn't held, or a certificate's that is fetched
 abbrev pub LacksFile : Plan → Holds → Type 0
-LacksFile plan holds = HoldsNone holds plan.model ⊎ ((plan.action ≡ Check) × HoldsNone holds (cert_name plan))
+LacksFile plan holds = HoldsNone holds plan.model ⊎ (WantsCert plan holds × HoldsNone holds (cert_name plan))
 
 -- where the shelf tells, a file that is fetched has more bytes than its limit
 abbrev pub HasLongFile : Plan → Holds → Type 0
-HasLongFile plan holds = HoldsLonger holds plan.model model_limit ⊎ ((plan.action ≡ Check) × HoldsLonger holds (cert_name plan) cert_limit)
+HasLongFile plan holds = HoldsLonger holds plan.model model_limit ⊎ (WantsCert plan holds × HoldsLonger holds (cert_name plan) cert_limit)
 
 -- a certificate is named where `check` needs one, and the limit of groups is one of those that may be asked for
 pub record IsProper (plan : Plan) : Type 0 where

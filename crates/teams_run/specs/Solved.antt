@@ -51,8 +51,10 @@ pub record Stands (sys : System) (o : Outcome) : Type 0 where
   pub optimal : o.verdict ≡ Optimal → o.cost ≡ least
   pub bounded : o.verdict ≡ Bounded → o.low < o.cost
 
--- the text is the report of a right outcome over the system's ambiguity groups, under these labels, with this limit
+-- the text is the report of a right outcome over the system's ambiguity groups, of which there are at most 512, under these
+-- labels, with this limit
 pub record IsSolution (sys : System) (labels : Labels) (groups : ℕ) (verdict : Verdict) (text : List ℕ) : Type 0 where
+  pub few : length (firsts sys) ≤ 512
   pub problem : Problem
   pub classes : IsOfClasses sys problem
   pub outcome : Outcome

@@ -10,7 +10,7 @@ use Rattle.sig_matrix.specs.declared.matrix.Matrix.{Matrix}
 use Rattle.sig_matrix.specs.Detection.{system_of}
 use Rattle.sig_matrix.specs.MatrixText.{matrix_bytes}
 use Rattle.sig_classes.specs.Labels.{labels_from}
-use Rattle.seq_theory.specs.States.{System}
+use Rattle.seq_theory.specs.States.{System, firsts}
 use Rattle.seq_inst.specs.declared.outcome.Verdict.TheVariants.{Optimal, Bounded as BoundedVerdict}
 use Rattle.sig_figures.specs.declared.summary.Figures.{Figures}
 use Rattle.sig_figures.specs.Figures.{AreFigures}
@@ -94,6 +94,13 @@ pub record IsTooLarge (plan : Plan) (content : List ℕ) (refusal : Refusal) : T
 -- the refusal is the first of the text's, or else the system is too large for what the plan asks
 abbrev pub IsRefusal : Plan → List ℕ → Refusal → Type 0
 IsRefusal plan content refusal = TellsFirst (refusals content plan.mode) (Refused refusal) ⊎ IsTooLarge plan content refusal
+
+-- the bytes are accepted, and their system isn't too large for a search or a check
+pub record IsFit (plan : Plan) (content : List ℕ) : Type 0 where
+  pub flat : Flat
+  pub matrix : Matrix
+  pub of_text : IsMatrixOfText content plan.mode flat matrix
+  pub few : length (firsts (system_of matrix)) ≤ 512
 
 -- why no text came out; want of memory may come at any time
 abbrev pub TellsWhy : Plan → List ℕ → ModelFault → Type 0

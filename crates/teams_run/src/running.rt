@@ -5,7 +5,7 @@ ghost use Rattle.sig_edge.specs.Causes.{Rose};
 ghost use Rattle.sig_edge.specs.Shelf.{HoldsNone, HoldsLonger};
 ghost use Rattle.teams_run.specs.Plans.{plan_of};
 ghost use Rattle.teams_run.specs.RefusalText.{refusal_line};
-ghost use Rattle.teams_run.specs.Texts.{IsDue, cert_limit, cert_name};
+ghost use Rattle.teams_run.specs.Texts.{IsDue, IsFit, cert_limit, cert_name};
 ghost use Rattle.teams_run.specs.Runs.{IsDueText, WritesDue, WritesPart, IsSilent, IsProper, ForPlan, HasLongFile, LacksFile};
 
 use crate::answering::{answer_for, mode_name, prepared_for};
@@ -78,9 +78,9 @@ fn check_due<D: Shelf>(
     requires cert { IsSome plan.now.cert }
     ensures due { IfOk result (λ due. IsDue plan.now (D.holds shelf.old) content.now due.status due.text.items) }
     ensures missing { IsErrOf result FetchFault.Missing → Rose (D.misses shelf.old) (D.misses shelf.new) }
-    ensures missing_held { IsErrOf result FetchFault.Missing → HoldsNone (D.holds shelf.old) (cert_name plan.now) }
+    ensures missing_held { IsErrOf result FetchFault.Missing → IsFit plan.now content.now × HoldsNone (D.holds shelf.old) (cert_name plan.now) }
     ensures failed { IsErrOf result FetchFault.Failed → Rose (D.faults shelf.old) (D.faults shelf.new) }
-    ensures too_long { IsErrOf result FetchFault.TooLong → HoldsLonger (D.holds shelf.old) (cert_name plan.now) cert_limit }
+    ensures too_long { IsErrOf result FetchFault.TooLong → IsFit plan.now content.now × HoldsLonger (D.holds shelf.old) (cert_name plan.now) cert_limit }
     ensures same { D.holds shelf.new ≡ D.holds shelf.old }
 {
     let (accepted, prepared) = match prepared_for(alloc, plan, content) {

@@ -3,6 +3,7 @@
 use super::*;
 use crate::texts::*;
 use sig_edge::{MemShelf, MemSink};
+use sig_types::Text;
 use std::alloc::{AllocError, Global};
 use std::str;
 use std::test::Fail;
@@ -295,7 +296,8 @@ fn many_groups(rt: HostRuntime) -> Result<(), Fail> {
     Ok(())
 }
 
-/// Where the limit of groups is met, a right strategy with its gap comes.
+/// Where the limit of groups is met, a right strategy with its gap comes. Lows and cost are those of the
+/// set of entered groups, not the bounds that the walk had stored, so the strategy may be optimal still.
 #[test]
 fn limits(rt: HostRuntime) -> Result<(), Fail> {
     let alloc = rt.alloc();
@@ -303,6 +305,8 @@ fn limits(rt: HostRuntime) -> Result<(), Fail> {
         (STAR, "--groups=5", 0, STAR_REPORT),
         (STAR, "--groups=4", 3, SHORT_STAR_REPORT),
         (HALVES, "--groups=2", 3, SHORT_HALVES_REPORT),
+        (CROSSED, "--groups=8", 0, CROSSED_REPORT),
+        (LAGGING, "--groups=7", 0, LAGGING_REPORT),
     ] {
         let (status, wrote) = ran(alloc, &["solve", "m.toml", groups], text.as_bytes())?;
         assert_eq!(rt; status.number(), number);
@@ -311,14 +315,21 @@ fn limits(rt: HostRuntime) -> Result<(), Fail> {
     Ok(())
 }
 
-/// How `check` ends on a model and a certificate, and what it writes.
+/// How the check of a certificate against a model ends, and what it writes.
 fn checked(alloc: Global, text: &str, cert: &str) -> Result<(Status, Vec<u8>), AllocError> {
     let mut shelf = MemShelf::new(alloc, Vec::new(alloc));
     shelf.add("m.toml", text.as_bytes())?;
     shelf.add("c", cert.as_bytes())?;
     let mut sink = MemSink::new(alloc, 4096, 4096, Vec::new(alloc))?;
-    let words = words_of(alloc, &["check", "m.toml", "--cert=c"])?;
-    let status = run(alloc, words.as_slice(), &mut shelf, &mut sink);
+    let plan = Plan {
+        action: Action::Check,
+        model: Text::of(alloc, "m.toml")?,
+        cert: Some(Text::of(alloc, "c")?),
+        workers: 0,
+        groups: 4000,
+        mode: None,
+    };
+    let status = run_quiet(alloc, &plan, &mut shelf, &mut sink);
     let wrote = Vec::from_slice(alloc, sink.wrote())?;
     Ok((status, wrote))
 }
@@ -388,6 +399,98 @@ fn altered_certificates(rt: HostRuntime) -> Result<(), Fail> {
     let words = words_of(alloc, &["check", "m.toml", "--cert=c"])?;
     let status = run(alloc, words.as_slice(), &mut shelf, &mut sink);
     assert_eq!(rt; status.number(), 8);
+    Ok(())
+}
+
+/// The report of the star, whole and with four groups, with one text of it replaced: each line names what
+/// the certificate claims wrongly of the model, or where it leaves its form.
+#[test]
+fn hostile_certificates(rt: HostRuntime) -> Result<(), Fail> {
+    let alloc = rt.alloc();
+    for (report, old, new, line) in [
+        (
+            STAR_REPORT,
+            "class 0 1 1",
+            "class 0 2 1",
+            "rejected line 13 C02\n",
+        ),
+        (STAR_REPORT, "low 14", "low 15", "rejected line 9 C05\n"),
+        (STAR_REPORT, "gap 0", "gap 1", "rejected line 10 C05\n"),
+        (
+            STAR_REPORT,
+            "groups 5",
+            "groups 4",
+            "rejected line 40 C01\n",
+        ),
+        (
+            STAR_REPORT,
+            "group 4 1b 9\ngroup 4 1d 9",
+            "group 4 1d 9\ngroup 4 1b 9",
+            "rejected line 39 C06\n",
+        ),
+        (
+            STAR_REPORT,
+            "group 4 17 9",
+            "group 4 17 10",
+            "rejected line 37 C07\n",
+        ),
+        (
+            STAR_REPORT,
+            "group 5 1f 14",
+            "group 5 1f 13",
+            "rejected line 40 C08\n",
+        ),
+        (STAR_REPORT, "end\n", "end\n\n", "rejected line 42 C01\n"),
+        (
+            STAR_REPORT,
+            "group 4 1b 9\n",
+            "group 4 17 9\n",
+            "rejected line 38 C06\n",
+        ),
+        (
+            SHORT_STAR_REPORT,
+            "missed 4 f",
+            "missed 4 17",
+            "rejected line 40 C09\n",
+        ),
+        (
+            SHORT_STAR_REPORT,
+            "missed 4 f",
+            "missed 3 f",
+            "rejected line 40 C09\n",
+        ),
+        (
+            SHORT_STAR_REPORT,
+            "limit 4",
+            "limit 5",
+            "rejected line 12 C05\n",
+        ),
+        (
+            SHORT_STAR_REPORT,
+            "low 13",
+            "low 15",
+            "rejected line 9 C05\n",
+        ),
+    ] {
+        let cert = report.replacen(alloc, old, new, 1)?;
+        let (status, wrote) = checked(alloc, STAR, cert.as_str())?;
+        assert_eq!(rt; wrote.as_slice(), line.as_bytes());
+        assert_eq!(rt; status.number(), 7);
+    }
+    let cheaper = BOX_REPORT.replacen(alloc, "cost 27\nlow 27", "cost 26\nlow 26", 1)?;
+    let unsplit = cheaper
+        .as_str()
+        .replacen(alloc, "ask 0\nask 1", "ask 0\nask 0", 1)?;
+    let cut = BOX_REPORT.replacen(alloc, "leaf 1\n", "", 1)?;
+    for (cert, line) in [
+        (unsplit.as_str(), "rejected line 22 C03\n"),
+        (cut.as_str(), "rejected line 25 C03\n"),
+        ("", "rejected line 1 C01\n"),
+    ] {
+        let (status, wrote) = checked(alloc, BOX, cert)?;
+        assert_eq!(rt; wrote.as_slice(), line.as_bytes());
+        assert_eq!(rt; status.number(), 7);
+    }
     Ok(())
 }
 

@@ -23,6 +23,7 @@ returns c =
     let valid = c.args.prepared.now.inst.valid in
     let form = subst (λ l. IsPrintable o l → IsReport (report_from p o l)) c.requires.prepared.labels c.in_ok-text.ensures.form in
     record {
+      few = c.requires.prepared.few;
       problem = p;
       classes = c.requires.prepared.classes;
       outcome = c.in_ok-outcome.outcome;
