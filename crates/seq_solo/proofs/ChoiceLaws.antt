@@ -84,7 +84,7 @@ chosen-either P o s n c before here is x e =
 
 -- ---- some test splits a group of two goals ----
 
-first_least-in : (f : ℕ → ℕ) (x : ℕ) (xs : List ℕ) → IsIn (first_least f (x ∷ xs)) (x ∷ xs)
+pub first_least-in : (f : ℕ → ℕ) (x : ℕ) (xs : List ℕ) → IsIn (first_least f (x ∷ xs)) (x ∷ xs)
 first_least-in f x [] = inl refl
 first_least-in f x (y ∷ rest) = go (nat_le (f x) (f (first_least f (y ∷ rest)))) (first_least-in f y rest)
   where
@@ -100,6 +100,14 @@ first_least-all : (f : ℕ → ℕ) (u : ℕ) (xs : List ℕ) → IsIn u xs → 
 first_least-all f u [] i = absurd i
 first_least-all f u (x ∷ xs) i = record { among = first_least-in f x xs; least = first_least-is f x xs }
 
+-- a list that is gone through with no choice has no test
+pub chosen-none : (f : ℕ → ℕ) (u : ℕ) (xs : List ℕ) → IsIn u xs → ChosenSoFar f xs None → ⊥
+chosen-none f u [] i s = i
+chosen-none f u (x ∷ xs) i s = none_some s.chosen s.is
+  where
+    none_some : (c : Chosen) → None ≡ Some c → ⊥
+    none_some c e = cc
+
 module _ (p : Problem) where
   some-splits : (group : List ℕ) → AreTold p → IsWithin p group → is_end p group ≡ false → (t : ℕ) × IsIn t (splitting p group)
   some-splits group told within e =
@@ -111,16 +119,6 @@ module _ (p : Problem) where
   least_test-first f group t told within e is =
       let s = some-splits group told within e in
       subst (IsFirst f (splitting p group)) (sym is) (first_least-all f s.0 (splitting p group) s.1)
-
-  pub chosen-some : (f : ℕ → ℕ) (group : List ℕ) → AreTold p → IsWithin p group → is_end p group ≡ false → ChosenSoFar f (splitting p group) None → ⊥
-  chosen-some f group told within e s = let r = some-splits group told within e in go r.0 (splitting p group) r.1 s
-    where
-      none_some : (c : Chosen) → None ≡ Some c → ⊥
-      none_some c e = cc
-
-      go : (u : ℕ) (xs : List ℕ) → IsIn u xs → ChosenSoFar f xs None → ⊥
-      go u [] i s = i
-      go u (x ∷ xs) i s = none_some s.chosen s.is
 
   -- the most to which the group may be raised
   pub most_low-is : (l : List ℕ → ℕ) (group : List ℕ) (t b sum : ℕ) → b ≡ bound p group → sum ≡ step_sum p l group t → IsFirst (step_sum p l group) (splitting p group) t → max b sum ≡ max (bound p group) (least_of (map (step_sum p l group) (splitting p group)))

@@ -1,16 +1,15 @@
 -- What stands beside the numbers while rows change. Where a row is narrowed, or a group gets a row, what all other groups count
 -- stays as it is; and a group that was not met before has no row.
-use Rattle.std.proofs.Common.{◌≡◌, ◌≢◌, ℕ, zero, suc, ◌<◌, ◌≤◌, max, min, List, [], ◌∷◌, ◌++◌, length, get_or, set, drop, refl, sym, ap, ◌∙◌, arith, inl, inr, subst, Option, Some, None, length-append}
-use Rattle.std.specs.Prelude.{false, cond, nat_eq, map, slice_get}
-use Rattle.std.specs.Option.{option_map}
-use Rattle.std.proofs.lemmas.Bool.{cases_Bool, eqb-true}
+use Rattle.std.proofs.Common.{◌≡◌, ◌≢◌, ℕ, zero, suc, ◌<◌, ◌≤◌, max, min, List, [], ◌∷◌, ◌++◌, length, get_or, set, drop, refl, sym, ap, ◌∙◌, arith, inl, inr, subst, Option, Some, None, length-append, ◌⊎◌}
+use Rattle.std.specs.Prelude.{false, cond, nat_eq, map, slice_get, true, All, filter, nat_le}
+use Rattle.std.proofs.lemmas.Bool.{cases_Bool, eqb-true, true≢false}
 use Rattle.std.proofs.lemmas.List.{get_or-set_same, length-map}
-use Rattle.std.proofs.lemmas.Option.{slice_get-map, slice_get_within, get_or_from_slice_get}
+use Rattle.std.proofs.lemmas.Option.{slice_get_within}
 use Rattle.std.proofs.Math.ListN.{length-set}
-use Rattle.seq_theory.specs.Problem.{Problem, is_end}
-use Rattle.seq_theory.specs.Bound.{bound}
-use Rattle.seq_theory.specs.Graph.{is_entered, IsReal}
-use Rattle.seq_theory.specs.Rows.{Row as PlainRow, no_value, groups_of, row_of, low_or, up_or}
+use Rattle.seq_theory.specs.Problem.{Problem, is_end, splitting, pass_part, fail_part}
+use Rattle.seq_theory.specs.Bound.{bound, step_sum}
+use Rattle.seq_theory.specs.Graph.{is_entered, IsReal, same_group}
+use Rattle.seq_theory.specs.Rows.{Row as PlainRow, no_value, groups_of, row_of, low_or, up_or, known_low}
 use Rattle.seq_theory.proofs.GreedyLaws.{bound-end}
 use Rattle.seq_inst.specs.declared.group.Group.{Group}
 use Rattle.seq_inst.specs.declared.instance.Instance.{Instance}
@@ -18,18 +17,24 @@ use Rattle.seq_inst.specs.declared.outcome.Row.{Row}
 use Rattle.seq_inst.specs.Members.{members}
 use Rattle.seq_inst.specs.Instances.{problem_of}
 use Rattle.seq_core.specs.declared.kept.Kept.{Kept}
-use Rattle.seq_core.specs.KeptOf.{IsKeptOf}
+use Rattle.seq_core.specs.KeptOf.{IsKeptOf, HasParts}
 use Rattle.seq_core.specs.Numbered.{Numbered, HasNumber, AreNumbers, KeepsNumbers}
 use Rattle.seq_core.specs.RowsOf.{row_of as row_from, rows_of as rows_from, place_in}
 use Rattle.seq_core.specs.Settled.{value_or}
 use Rattle.seq_solo.specs.declared.search.Count.{Count}
-use Rattle.seq_solo.specs.Known.{AreKnown, count_of, no_row, row_at, group_at, raised_at, capped_at, no_count, count_at, narrowed_at}
-use Rattle.seq_solo.specs.Counts.{new_count}
+use Rattle.seq_solo.specs.Known.{AreKnown, count_of, no_row, row_at, group_at, raised_at, capped_at, narrowed_at, IsKeptBy}
+use Rattle.seq_solo.specs.Counts.{new_count, count_at}
 use Rattle.seq_solo.proofs.KnownLaws.{row-real}
 use Rattle.seq_solo.proofs.PlaceLaws.{place-found, place-none, row-at-place, absent-row, absent-place, set-places, set-others, more-others, more-other-places, more-row, more-place}
 use Rattle.seq_solo.proofs.NumberLaws.{map-changed, map-later, number-once}
-use Rattle.seq_solo.proofs.CountLaws.{kept-read}
-use Rattle.seq_solo.proofs.EventLaws.{IsRefreshed, entered-known, length-Narrows, group-Narrows}
+use Rattle.seq_solo.proofs.CountLaws.{kept-read, count-at, countable, counted-is}
+use Rattle.seq_solo.proofs.EventLaws.{IsRefreshed, entered-known, length-Narrows, group-Narrows, up-Narrows}
+use Rattle.seq_theory.proofs.RowLaws.{same_group-true, same_group-refl}
+use Rattle.seq_core.specs.declared.kept.Split.{Split}
+use Rattle.seq_solo.specs.Thinned.{counted_sum, IsCountable}
+use Rattle.seq_solo.proofs.ThinLaws.{thinned-none, thinned-rises, thinned-more}
+use Rattle.seq_solo.proofs.SplitLaws.{split-at, tests-filter}
+use Rattle.std.proofs.lemmas.List.Elements.{All-filter}
 
 -- ---- what a row gives ----
 
@@ -55,8 +60,66 @@ count-none p rows g is = elim (cases_Bool (is_end p g)) [
   | inr n ↦ rw (n, is, absent-place rows g is) refl
 ]
 
-count-at : (f : List ℕ → Count) (groups : List (List ℕ)) (n : ℕ) (g : List ℕ) → slice_get groups n ≡ Some g → count_at (map f groups) n ≡ f g
-count-at f groups n g has = get_or_from_slice_get (map f groups) n (f g) no_count (slice_get-map f groups n ∙ ap (option_map f) has)
+-- ---- what is kept ----
+
+-- what is kept of a row stays right while lows rise and its up falls
+kept-narrows : (p : Problem) (v : Numbered) (rows now : List Row) (r s : Row) (k : Kept) → s.group ≡ r.group → ((h : List ℕ) → known_low p (rows_from rows) h ≤ known_low p (rows_from now) h) → s.up ≤ r.up → IsKeptBy p v rows r k → IsKeptBy p v now s k
+kept-narrows p v rows now r s k e rises falls kept = subst (λ (g : Group). IsKeptBy p v now (record { group = g; low = s.low; up = s.up }) k) (sym e) (record {
+  number = kept.number;
+  weight = kept.weight;
+  bound_is = kept.bound_is;
+  greedy = kept.greedy;
+  tests = thinned-rises (step_sum p (known_low p (rows_from rows)) (members r.group)) (step_sum p (known_low p (rows_from now)) (members r.group)) r.up s.up (splitting p (members r.group)) (map (λ t. t.test) k.splits.items) kept.tests
+      (λ t. let a = rises (pass_part p t (members r.group)) in let b = rises (fail_part p t (members r.group)) in omega arith) falls;
+  parts = kept.parts;
+})
+
+-- and while more groups get numbers
+kept-keeps : (p : Problem) (old new : Numbered) (rows : List Row) (r : Row) (k : Kept) → KeepsNumbers old new → IsKeptBy p old rows r k → IsKeptBy p new rows r k
+kept-keeps p old new rows r k keeps h = record {
+  number = keeps (members r.group) k.number h.number;
+  weight = h.weight;
+  bound_is = h.bound_is;
+  greedy = h.greedy;
+  tests = h.tests;
+  parts = λ i d lt. let a = h.parts i d lt in record { passing = keeps _ _ a.passing; failing = keeps _ _ a.failing };
+}
+
+-- at first no test is left out
+kept-whole : (p : Problem) (v : Numbered) (rows : List Row) (r : Row) (k : Kept) → IsKeptOf p v (members r.group) k → IsKeptBy p v rows r k
+kept-whole p v rows r k h = record {
+  number = h.number;
+  weight = h.weight;
+  bound_is = h.bound;
+  greedy = h.greedy;
+  tests = thinned-none (step_sum p (known_low p (rows_from rows)) (members r.group)) r.up (splitting p (members r.group)) (map (λ t. t.test) k.splits.items) h.tests;
+  parts = h.parts;
+}
+
+kept-more : (P : Row → Kept → Type 0) (rows : List Row) (kept : List Kept) (r : Row) (k : Kept) → length kept ≡ length rows
+    → ((q : ℕ) (x : Kept) → slice_get kept q ≡ Some x → P (row_at rows q) x) → P r k
+    → (q : ℕ) (x : Kept) → slice_get (kept ++ k ∷ []) q ≡ Some x → P (row_at (rows ++ r ∷ []) q) x
+kept-more P [] [] r k l all here zero x e = let same : k ≡ x = cc in subst (P r) same here
+kept-more P [] [] r k l all here (suc q) x e = absurd (let bad : ⊥ = cc in bad)
+kept-more P [] (y ∷ kept) r k l all here q x e = absurd (let bad : ⊥ = omega arith in bad)
+kept-more P (s ∷ rows) [] r k l all here q x e = absurd (let bad : ⊥ = omega arith in bad)
+kept-more P (s ∷ rows) (y ∷ kept) r k l all here zero x e = all 0 x e
+kept-more P (s ∷ rows) (y ∷ kept) r k l all here (suc q) x e = kept-more P rows kept r k (omega arith) (λ j z f. all (suc j) z f) here q x e
+
+get-set : {A : Type 0} (xs : List A) (k : ℕ) (x : A) (q : ℕ) (y : A) → slice_get (set xs k x) q ≡ Some y → ((q ≡ k) × (x ≡ y)) ⊎ (slice_get xs q ≡ Some y)
+get-set [] k x q y e = inr e
+get-set (z ∷ xs) zero x zero y e = let same : x ≡ y = cc in inl (refl, same)
+get-set (z ∷ xs) zero x (suc q) y e = inr e
+get-set (z ∷ xs) (suc k) x zero y e = inr e
+get-set (z ∷ xs) (suc k) x (suc q) y e = elim (get-set xs k x q y e) [ inl s ↦ inl (ap suc s.0, s.1) | inr o ↦ inr o ]
+
+-- a low that counts no less
+low-cases : (p : Problem) (rows now : List Row) (g : List ℕ) → ((h : List ℕ) → h ≢ g → count_of p now h ≡ count_of p rows h) → known_low p (rows_from rows) g ≤ known_low p (rows_from now) g
+    → (h : List ℕ) → known_low p (rows_from rows) h ≤ known_low p (rows_from now) h
+low-cases p rows now g others here h = elim (cases_Bool (same_group h g)) [
+  | inl y ↦ subst (λ x. known_low p (rows_from rows) x ≤ known_low p (rows_from now) x) (sym (same_group-true h g y)) here
+  | inr n ↦ (let e = ap (λ (c : Count). c.low) (others h (λ s. true≢false (sym (subst (λ x. same_group h x ≡ true) s (same_group-refl h)) ∙ n))) in omega arith)
+]
 
 -- ---- a row is narrowed ----
 
@@ -115,6 +178,10 @@ module _ (inst : Instance) (v : Numbered) (rows : List Row) (kept : List Kept) (
       ∙ ap (λ n. record { low = n; up = min (row_at rows place).up up; place = place_in (rows_from rows) (members (group_at rows place)) }) (max-swap (row_at rows place).low (bound (problem_of inst) (members (group_at rows place))) low)
       ∙ sym after
 
+  lows-rise : (h : List ℕ) → known_low (problem_of inst) (rows_from rows) h ≤ known_low (problem_of inst) (rows_from (capped_at (raised_at rows place low) place up)) h
+  lows-rise = low-cases (problem_of inst) rows (capped_at (raised_at rows place low) place up) (members (group_at rows place)) same-counts
+      (let a = ap (λ (c : Count). c.low) before in let b = ap (λ (c : Count). c.low) after in omega arith)
+
   pub narrowed-known : AreKnown (problem_of inst) v (capped_at (raised_at rows place low) place up) kept (narrowed_at counts k.number low up)
   narrowed-known =
       let p = problem_of inst in
@@ -129,7 +196,8 @@ module _ (inst : Instance) (v : Numbered) (rows : List Row) (kept : List Kept) (
           each = λ q x e.
               let within = slice_get_within kept q x e in
               let l = known.kept_are.as_many in
-              subst (λ (h : Group). IsKeptOf p v (members h) x) (sym (group-Narrows rows (capped_at (raised_at rows place low) place up) q narrowed.narrows (omega arith))) (known.kept_are.each q x e);
+              kept-narrows p v rows (capped_at (raised_at rows place low) place up) (row_at rows q) (row_at (capped_at (raised_at rows place low) place up) q) x (group-Narrows rows (capped_at (raised_at rows place low) place up) q narrowed.narrows (omega arith)) lows-rise
+              (up-Narrows rows (capped_at (raised_at rows place low) place up) q narrowed.narrows (omega arith)) (known.kept_are.each q x e);
         };
         counts_are = ap (λ (c : Count). set counts k.number (record c { low = max c.low low; up = min c.up up })) here ∙ ap (λ c. set counts k.number c) narrowed-count ∙ ap (λ l. set l k.number (count_of p (capped_at (raised_at rows place low) place up) g)) known.counts_are
             ∙ sym (map-changed (count_of p rows) (count_of p (capped_at (raised_at rows place low) place up)) v.groups k.number g known.numbers_are.distinct has same-counts);
@@ -141,26 +209,6 @@ some-there : {A : Type 0} (xs : List A) (i : ℕ) → i < length xs → (x : A) 
 some-there [] i lt = absurd (let bad : ⊥ = omega arith in bad)
 some-there (x ∷ xs) zero lt = (x, refl)
 some-there (x ∷ xs) (suc i) lt = some-there xs i (omega arith)
-
-kept-keeps : (p : Problem) (old new : Numbered) (g : List ℕ) (k : Kept) → KeepsNumbers old new → IsKeptOf p old g k → IsKeptOf p new g k
-kept-keeps p old new g k keeps h = record {
-  number = keeps g k.number h.number;
-  weight = h.weight;
-  bound = h.bound;
-  greedy = h.greedy;
-  tests = h.tests;
-  parts = λ i d lt. let a = h.parts i d lt in record { passing = keeps _ _ a.passing; failing = keeps _ _ a.failing };
-}
-
-kept-more : (p : Problem) (v : Numbered) (rows : List Row) (kept : List Kept) (r : Row) (k : Kept) → length kept ≡ length rows
-    → ((q : ℕ) (x : Kept) → slice_get kept q ≡ Some x → IsKeptOf p v (members (group_at rows q)) x) → IsKeptOf p v (members r.group) k
-    → (q : ℕ) (x : Kept) → slice_get (kept ++ k ∷ []) q ≡ Some x → IsKeptOf p v (members (group_at (rows ++ r ∷ []) q)) x
-kept-more p v [] [] r k l all here zero x e = let same : k ≡ x = cc in subst (IsKeptOf p v (members r.group)) same here
-kept-more p v [] [] r k l all here (suc q) x e = absurd (let bad : ⊥ = cc in bad)
-kept-more p v [] (y ∷ kept) r k l all here q x e = absurd (let bad : ⊥ = omega arith in bad)
-kept-more p v (s ∷ rows) [] r k l all here q x e = absurd (let bad : ⊥ = omega arith in bad)
-kept-more p v (s ∷ rows) (y ∷ kept) r k l all here zero x e = all 0 x e
-kept-more p v (s ∷ rows) (y ∷ kept) r k l all here (suc q) x e = kept-more p v rows kept r k (omega arith) (λ j z f. all (suc j) z f) here q x e
 
 module _ (inst : Instance) (old new : Numbered) (rows : List Row) (kept : List Kept) (counts : List Count) (known : AreKnown (problem_of inst) old rows kept counts) (numbers : AreNumbers (problem_of inst) new) (keeps : KeepsNumbers old new) where
   -- a group with a later number has no row
@@ -205,6 +253,7 @@ module _ (inst : Instance) (old new : Numbered) (rows : List Row) (kept : List K
       let old_count : f (members g) ≡ new_count p (members g) = count-none p rows (members g) none in
       let new_is : now (members g) ≡ record { low = max 0 (bound p (members g)); up = no_value; place = Some (length rows) } = count-row p (rows ++ row ∷ []) (members g) (row_from row) (Some (length rows)) real.goals (more-row rows row absent) (more-place rows row absent) in
       let old_is : f (members g) ≡ record { low = bound p (members g); up = no_value; place = None } = old_count ∙ ap (λ b. record { low = bound p (members g); up = cond b 0 no_value; place = None }) real.goals in
+      let others = λ (h : List ℕ) (ne : h ≢ members g). count-same p (rows ++ row ∷ []) rows h (more-others rows row h ne) (more-other-places rows row h ne) in
       let larger : bound p (members g) ≡ max 0 (bound p (members g)) = omega arith in
       let placed : record (count_at more k.number) { place = Some place } ≡ now (members g) =
       ap (λ (c : Count). record c { place = Some place }) (here ∙ old_is) ∙ ap (λ n. record { low = bound p (members g); up = no_value; place = Some n }) place_is ∙ ap (λ n. record { low = n; up = no_value; place = Some (length rows) }) larger ∙ sym new_is in
@@ -213,8 +262,55 @@ module _ (inst : Instance) (old new : Numbered) (rows : List Row) (kept : List K
         numbers_are = numbers;
         kept_are = record {
           as_many = (let a = length-append kept (k ∷ []) in let b = length-append rows (row ∷ []) in omega arith);
-          each = kept-more p new rows kept row k l (λ q x e. kept-keeps p old new (members (group_at rows q)) x keeps (known.kept_are.each q x e)) of;
+          each = kept-more (λ r x. IsKeptBy p new (rows ++ row ∷ []) r x) rows kept row k l
+              (λ q x e. kept-narrows p new rows (rows ++ row ∷ []) (row_at rows q) (row_at rows q) x refl
+              (low-cases p rows (rows ++ row ∷ []) (members g) others (let a = ap (λ (c : Count). c.low) old_is in let b = ap (λ (c : Count). c.low) new_is in omega arith)) (omega arith) (kept-keeps p old new rows (row_at rows q) x keeps (known.kept_are.each q x e)))
+              (kept-whole p new (rows ++ row ∷ []) row k of);
         };
         counts_are = ap (λ c. set more k.number c) placed ∙ ap (λ c. set c k.number (now (members g))) counted
-            ∙ sym (map-changed f now new.groups k.number (members g) numbers.distinct of.number (λ h ne. count-same p (rows ++ row ∷ []) rows h (more-others rows row h ne) (more-other-places rows row h ne)));
+            ∙ sym (map-changed f now new.groups k.number (members g) numbers.distinct of.number others);
+      }
+
+-- ---- tests are left out ----
+
+module _ (inst : Instance) (v : Numbered) (rows : List Row) (kept : List Kept) (counts : List Count) (known : AreKnown (problem_of inst) v rows kept counts) (place : ℕ) (lt : place < length rows) (k : Kept)
+    (read : k ≡ get_or kept place k) where
+  of-row : IsKeptBy (problem_of inst) v rows (row_at rows place) k
+  of-row = kept-read (problem_of inst) v rows kept counts known place k lt read
+
+  pub all-countable : All (IsCountable inst.costs.items k.weight counts) k.splits.items
+  all-countable i d h =
+      let at = split-at (problem_of inst) v rows (row_at rows place) k k.splits.items of-row refl i d h in
+      countable inst v rows kept counts known place lt (get_or k.splits.items i d) k at.parts at.there read
+
+  pub thinned-known : (thin : Kept) (up : ℕ) → up ≡ (row_at rows place).up → thin.number ≡ k.number → thin.weight ≡ k.weight → thin.bound ≡ k.bound → thin.greedy ≡ k.greedy
+      → thin.splits.items ≡ filter (λ s. nat_le (counted_sum inst.costs.items k.weight counts s) up) k.splits.items → AreKnown (problem_of inst) v rows (set kept place thin) counts
+  thinned-known thin up up_is en ew eb eg splits_are =
+      let p = problem_of inst in
+      let r = row_at rows place in
+      let g = members r.group in
+      let f = step_sum p (known_low p (rows_from rows)) g in
+      let stays = λ (s : Split). nat_le (counted_sum inst.costs.items k.weight counts s) up in
+      let tests = ap (map (λ (s : Split). s.test)) splits_are ∙ tests-filter stays (λ t. nat_le (f t) up) k.splits.items (λ i d h.
+      let at = split-at p v rows r k k.splits.items of-row refl i d h in
+      ap (λ n. nat_le n up) (counted-is inst v rows kept counts known place lt (get_or k.splits.items i d) k at.parts read)) in
+      let here : IsKeptBy p v rows r thin = record {
+        number = subst (HasNumber v g) (sym en) of-row.number;
+        weight = ew ∙ of-row.weight;
+        bound_is = eb ∙ of-row.bound_is;
+        greedy = eg ∙ of-row.greedy;
+        tests = thinned-more f r.up (splitting p g) (map (λ (s : Split). s.test) k.splits.items) (map (λ (s : Split). s.test) thin.splits.items) of-row.tests (tests ∙ ap (λ n. filter (λ t. nat_le (f t) n) (map (λ (s : Split). s.test) k.splits.items)) up_is);
+        parts = subst (All (HasParts p v g)) (sym splits_are) (All-filter stays (HasParts p v g) k.splits.items of-row.parts);
+      } in
+      record {
+        rows_are = known.rows_are;
+        numbers_are = known.numbers_are;
+        kept_are = record {
+          as_many = length-set kept place thin ∙ known.kept_are.as_many;
+          each = λ q x e. elim (get-set kept place thin q x e) [
+            | inl s ↦ subst (λ n. IsKeptBy p v rows (row_at rows n) x) (sym s.0) (subst (IsKeptBy p v rows r) s.1 here)
+            | inr o ↦ known.kept_are.each q x o
+          ];
+        };
+        counts_are = known.counts_are;
       }

@@ -21,7 +21,10 @@ use Rattle.seq_inst.specs.Members.{members}
 use Rattle.seq_inst.specs.Instances.{problem_of}
 use Rattle.seq_core.specs.RowsOf.{row_of as row_from, rows_of as rows_from}
 use Rattle.seq_solo.specs.Known.{AreRows, HasSmallUp, no_row, row_at, group_at, raised_at, capped_at, Narrows, IsClosedAt}
-use Rattle.seq_solo.proofs.KnownLaws.{sized, row-bounds}
+use Rattle.seq_solo.proofs.KnownLaws.{sized, row-bounds, row-within}
+use Rattle.std.specs.List.{filter_map}
+use Rattle.seq_theory.proofs.ValLaws.{least_of-first}
+use Rattle.seq_huff.proofs.GreedyCode.{greedy-small}
 
 -- ---- lists of rows ----
 
@@ -80,6 +83,12 @@ group-Narrows [] b k h lt = absurd (let bad : ⊥ = omega arith in bad)
 group-Narrows (r ∷ rs) [] k h lt = absurd h
 group-Narrows (r ∷ rs) (s ∷ ss) zero h lt = h.0
 group-Narrows (r ∷ rs) (s ∷ ss) (suc k) h lt = group-Narrows rs ss k h.3 (omega arith)
+
+pub up-Narrows : (a b : List Row) (k : ℕ) → Narrows a b → k < length a → (row_at b k).up ≤ (row_at a k).up
+up-Narrows [] b k h lt = absurd (let bad : ⊥ = omega arith in bad)
+up-Narrows (r ∷ rs) [] k h lt = absurd h
+up-Narrows (r ∷ rs) (s ∷ ss) zero h lt = h.2
+up-Narrows (r ∷ rs) (s ∷ ss) (suc k) h lt = up-Narrows rs ss k h.3 (omega arith)
 
 -- ---- raising changes no up ----
 
@@ -191,10 +200,18 @@ entered-known inst rows g known real new =
       small = All-push HasSmallUp rows row known.small (inl refl);
     }
 
--- in the words of the code
+-- in the words of the code, which caps by the lesser of the row's own up and what is allowed
 pub refresh-holds : (inst : Instance) (rows raised new : List Row) (k low up : ℕ) → AreRows (problem_of inst) rows → k < length rows
     → low ≡ most_low (problem_of inst) (rows_from rows) (members (group_at rows k))
-    → up ≡ least_up (problem_of inst) (rows_from rows) (members (group_at rows k)) → up ≤ greatest_cost
+    → up ≡ min (row_at rows k).up (least_up (problem_of inst) (rows_from rows) (members (group_at rows k)))
     → raised ≡ raised_at rows k low → new ≡ capped_at raised k up → IsRefreshed (problem_of inst) rows new k
-refresh-holds inst rows raised new k low up known lt low_is up_is small raised_is new_is =
-    is-refreshed inst rows k low up known lt low_is up_is small new (new_is ∙ ap (λ l. capped_at l k up) raised_is)
+refresh-holds inst rows raised new k low up known lt low_is up_is raised_is new_is =
+    let p = problem_of inst in
+    let g = members (group_at rows k) in
+    let least = least_up p (rows_from rows) g in
+    let small = greedy-small inst (group_at rows k) (row-within p rows known k lt) in
+    let first = least_of-first (greedy_cost p g) (filter_map (step_value p (known_up p (rows_from rows)) g) (splitting p g)) in
+    let row : row_at (raised_at rows k low) k ≡ record (row_at rows k) { low = max (row_at rows k).low low } = get_or-set_same rows k _ no_row lt in
+    let both : min (row_at (raised_at rows k low) k).up up ≡ min (row_at (raised_at rows k low) k).up least = (let e = ap (λ (r : Row). r.up) row in omega arith) in
+    let same : capped_at (raised_at rows k low) k up ≡ capped_at (raised_at rows k low) k least = ap (λ n. set (raised_at rows k low) k (record (row_at (raised_at rows k low) k) { up = n })) both in
+    is-refreshed inst rows k low least known lt low_is refl (omega arith) new (new_is ∙ ap (λ l. capped_at l k up) raised_is ∙ same)

@@ -5,6 +5,7 @@ pub mod CountLaws
 pub mod CountChanges
 pub mod SplitLaws
 pub mod ChoiceLaws
+pub mod ThinLaws
 pub mod EventLaws
 pub mod OpenLaws
 pub mod StepLaws

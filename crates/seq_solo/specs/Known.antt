@@ -1,6 +1,8 @@
 -- What a walk knows: sound rows, what is kept of each row's group, and what each group with a number counts.
-use Rattle.std.specs.Prelude.{◌≡◌, ◌⊎◌, ℕ, ◌≤◌, max, min, All, List, [], ◌∷◌, length, map, Some, None, slice_get, slice_set, slice_index_or}
-use Rattle.seq_theory.specs.Problem.{Problem}
+use Rattle.std.specs.Prelude.{◌≡◌, ◌⊎◌, ℕ, ◌≤◌, max, min, All, List, [], ◌∷◌, length, map, Some, slice_get, slice_set, slice_index_or}
+use Rattle.seq_theory.specs.Problem.{Problem, splitting, weight_of}
+use Rattle.seq_theory.specs.Bound.{bound, step_sum}
+use Rattle.seq_theory.specs.Greedy.{greedy_cost}
 use Rattle.seq_theory.specs.Rows.{no_value, known_low, known_up, IsSound}
 use Rattle.seq_huff.specs.Bounds.{greatest_cost}
 use Rattle.seq_inst.specs.declared.group.Group.{Group}
@@ -8,12 +10,14 @@ use Rattle.seq_inst.specs.declared.outcome.Row.{Row}
 use Rattle.seq_inst.specs.Members.{members}
 use Rattle.seq_inst.specs.Valid.{no_class}
 use Rattle.seq_core.specs.declared.kept.Kept.{Kept}
-use Rattle.seq_core.specs.KeptOf.{IsKeptOf}
-use Rattle.seq_core.specs.Numbered.{Numbered, AreNumbers}
+use Rattle.seq_core.specs.KeptOf.{HasParts}
+use Rattle.seq_core.specs.Numbered.{Numbered, HasNumber, AreNumbers}
 use Rattle.seq_core.specs.RowsOf.{rows_of as rows_from, place_in}
 use Rattle.seq_core.specs.Settled.{value_or}
 use Rattle.seq_solo.specs.declared.search.Count.{Count}
 use Rattle.seq_solo.specs.declared.search.Search.{Search}
+use Rattle.seq_solo.specs.Counts.{count_at}
+use Rattle.seq_solo.specs.Thinned.{IsThinned}
 
 -- no upper bound is known, or it is one of a size that sums of three fit a word
 abbrev pub HasSmallUp : Row → Type 0
@@ -34,10 +38,20 @@ row_at rows place = slice_index_or rows place no_row
 abbrev pub group_at : List Row → ℕ → Group
 group_at rows place = (row_at rows place).group
 
--- what is kept is that of the rows' groups, one by one
+-- what is kept of a row's group. Of the tests that split it those are left out whose sum is above the row's up: lows rise and
+-- ups fall, so such a test is never again the one of least sum, and gives no lower up
+pub record IsKeptBy (p : Problem) (v : Numbered) (rows : List Row) (r : Row) (k : Kept) : Type 0 where
+  pub number : HasNumber v (members r.group) k.number
+  pub weight : k.weight ≡ weight_of p (members r.group)
+  pub bound_is : k.bound ≡ bound p (members r.group)
+  pub greedy : k.greedy ≡ greedy_cost p (members r.group)
+  pub tests : IsThinned (step_sum p (known_low p (rows_from rows)) (members r.group)) r.up (splitting p (members r.group)) (map (λ s. s.test) k.splits.items)
+  pub parts : All (HasParts p v (members r.group)) k.splits.items
+
+-- what is kept is that of the rows, one by one
 pub record AreKept (p : Problem) (v : Numbered) (rows : List Row) (kept : List Kept) : Type 0 where
   pub as_many : length kept ≡ length rows
-  pub each : (place : ℕ) (k : Kept) → slice_get kept place ≡ Some k → IsKeptOf p v (members (group_at rows place)) k
+  pub each : (place : ℕ) (k : Kept) → slice_get kept place ≡ Some k → IsKeptBy p v rows (row_at rows place) k
 
 -- what a group counts for a low and for an up, and the place of its row
 abbrev pub count_of : Problem → List Row → List ℕ → Count
@@ -59,12 +73,6 @@ raised_at rows place to = slice_set rows place (record (row_at rows place) { low
 
 abbrev pub capped_at : List Row → ℕ → ℕ → List Row
 capped_at rows place to = slice_set rows place (record (row_at rows place) { up = min (row_at rows place).up to })
-
-abbrev pub no_count : Count
-no_count = record { low = 0; up = 0; place = None }
-
-abbrev pub count_at : List Count → ℕ → Count
-count_at counts number = slice_index_or counts number no_count
 
 -- the counts with that of one number raised and capped
 abbrev pub narrowed_at : List Count → ℕ → ℕ → ℕ → List Count

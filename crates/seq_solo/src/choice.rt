@@ -1,20 +1,20 @@
 //! The test of least sum, and what the rows allow a group to be raised and capped to. All go through
 //! the tests that are kept of the group.
-ghost use Rattle.std.specs.Prelude.{◌≡◌, ◌<◌, ◌≤◌, length};
+ghost use Rattle.std.specs.Prelude.{◌≡◌, ◌<◌, min, length};
 ghost use Rattle.seq_theory.specs.Problem.{splitting};
 ghost use Rattle.seq_theory.specs.Bound.{step_sum};
 ghost use Rattle.seq_theory.specs.Graph.{step_value};
 ghost use Rattle.seq_theory.specs.Greedy.{first_least};
 ghost use Rattle.seq_theory.specs.Rows.{known_low, known_up, most_low as most_low_of, least_up as least_up_of};
-ghost use Rattle.seq_huff.specs.Bounds.{greatest_cost};
 ghost use Rattle.seq_inst.specs.Members.{members};
 ghost use Rattle.seq_inst.specs.Instances.{problem_of};
 ghost use Rattle.seq_core.specs.RowsOf.{rows_of as rows_from};
 ghost use Rattle.seq_core.specs.KeptOf.{HasParts};
-ghost use Rattle.seq_solo.specs.Known.{IsKnown, group_at};
+ghost use Rattle.seq_solo.specs.Known.{IsKnown, row_at, group_at};
 ghost use Rattle.seq_solo.specs.Choice.{lesser_choice, lesser_value};
 
 use crate::search::Search;
+use crate::sums::sum_of;
 use seq_core::Split;
 use seq_inst::Instance;
 
@@ -43,9 +43,8 @@ fn low_sum(inst: &Instance, search: &Search, place: usize, split: Split) -> u64
     requires there { split.test < length inst.now.costs.items }
     ensures { result ≡ step_sum (problem_of inst.now) (known_low (problem_of inst.now) (rows_from search.now.rows.items)) (members (group_at search.now.rows.items place)) split.test }
 {
-    let pass = search.counts[split.pass as usize].low;
-    let fail = search.counts[split.fail as usize].low;
-    u64::from(inst.costs[split.test as usize]) * search.kept[place].weight + (pass + fail)
+    let weight = search.kept[place].weight;
+    sum_of(inst, search.counts.as_slice(), weight, split)
 }
 
 /// The splitting test of least sum, the lowest of these.
@@ -104,16 +103,14 @@ fn lesser_of(number: u64, value: Option<u64>) -> u64
     }
 }
 
-/// The least to which the group of the place may be capped: the least of greedy's cost and the sums of
-/// ups.
+/// The least of a row's up, greedy's cost and the sums of ups.
 pub(crate) fn least_up(inst: &Instance, search: &Search, place: usize) -> u64
     requires known { IsKnown (problem_of inst.now) search.now }
     requires place { place < length search.now.rows.items }
-    ensures value { result ≡ least_up_of (problem_of inst.now) (rows_from search.now.rows.items) (members (group_at search.now.rows.items place)) }
-    ensures fits { result ≤ greatest_cost }
+    ensures { result ≡ min (row_at search.now.rows.items place).up (least_up_of (problem_of inst.now) (rows_from search.now.rows.items) (members (group_at search.now.rows.items place))) }
 {
     let splits = search.kept[place].splits.as_slice();
-    let mut least = search.kept[place].greedy;
+    let mut least = search.rows[place].up.min(search.kept[place].greedy);
     for split in splits {
         least = lesser_of(least, up_sum(inst, search, place, *split));
     }

@@ -11,6 +11,7 @@ ghost use Rattle.seq_solo.specs.Known.{IsKnown, Narrows, group_at, IsClosedAt, r
 use crate::choice::{least_up, most_low};
 use crate::counts::count_new;
 use crate::search::{Count, Search};
+use crate::sums::leave_out;
 use seq_core::Kept;
 use seq_huff::Scratch;
 use seq_inst::{Group, Instance, Row};
@@ -45,7 +46,7 @@ fn narrow(counts: &mut Vec<Count>, number: usize, low: u64, up: u64)
 }
 
 /// Raises and caps a group by what is known of its parts.
-pub(crate) fn refresh(inst: &Instance, search: &mut Search, place: usize)
+fn tighten(inst: &Instance, search: &mut Search, place: usize)
     requires known { IsKnown (problem_of inst.now) search.old }
     requires place { place < length search.old.rows.items }
     ensures known { IsKnown (problem_of inst.now) search.new }
@@ -58,6 +59,31 @@ pub(crate) fn refresh(inst: &Instance, search: &mut Search, place: usize)
     raise(&mut search.rows, place, low);
     cap(&mut search.rows, place, up);
     narrow(&mut search.counts, number, low, up);
+}
+
+/// Leaves out the tests of a group that can't be of least sum again.
+fn thin(inst: &Instance, search: &mut Search, place: usize)
+    requires known { IsKnown (problem_of inst.now) search.old }
+    requires place { place < length search.old.rows.items }
+    ensures known { IsKnown (problem_of inst.now) search.new }
+    ensures rows { search.new.rows.items ≡ search.old.rows.items }
+{
+    let up = search.rows[place].up;
+    let kept = &mut search.kept[place];
+    let weight = kept.weight;
+    leave_out(inst, search.counts.as_slice(), weight, up, &mut kept.splits);
+}
+
+/// Raises and caps a group by what is known of its parts, and leaves out tests that are of no more use.
+pub(crate) fn refresh(inst: &Instance, search: &mut Search, place: usize)
+    requires known { IsKnown (problem_of inst.now) search.old }
+    requires place { place < length search.old.rows.items }
+    ensures known { IsKnown (problem_of inst.now) search.new }
+    ensures narrows { Narrows search.old.rows.items search.new.rows.items }
+    ensures closes { least_up_of (problem_of inst.now) (rows_from search.old.rows.items) (members (group_at search.old.rows.items place)) ≤ most_low_of (problem_of inst.now) (rows_from search.old.rows.items) (members (group_at search.old.rows.items place)) → IsClosedAt search.new.rows.items place }
+{
+    tighten(inst, search, place);
+    thin(inst, search, place);
 }
 
 /// Gives a group a row of which nothing is known, with what is kept of it.

@@ -13,6 +13,7 @@ mod counts;
 mod events;
 mod found;
 mod search;
+mod sums;
 #[cfg(test)]
 mod tests;
 mod turn;

@@ -7,12 +7,13 @@ use Rattle.seq_theory.specs.Rows.{known_up}
 use Rattle.seq_inst.specs.Members.{members}
 use Rattle.seq_inst.specs.Instances.{problem_of}
 use Rattle.seq_core.specs.RowsOf.{rows_of as rows_from}
-use Rattle.seq_solo.specs.Known.{group_at}
+use Rattle.seq_solo.specs.Known.{group_at, row_at}
 use Rattle.seq_solo.proofs.choice.least_up.Given as goal
+use Rattle.std.specs.Prelude.{min}
 
 abbrev pub invariant-loop-split : goal.invariant-loop-split
 invariant-loop-split l =
     l.least
     ≡ least_of
-    (greedy_cost (problem_of l.inst) (members (group_at l.search.rows.items l.place))
+    (min (row_at l.search.rows.items l.place).up (greedy_cost (problem_of l.inst) (members (group_at l.search.rows.items l.place)))
     ∷ filter_map (step_value (problem_of l.inst) (known_up (problem_of l.inst) (rows_from l.search.rows.items)) (members (group_at l.search.rows.items l.place))) (map (λ s. s.test) (take l.split-index l.splits)))

@@ -1,36 +1,18 @@
-use Rattle.std.proofs.Common.{◌≡◌, ◌∙◌, arith}
-use Rattle.std.proofs.lemmas.List.{get_or_read}
-use Rattle.seq_inst.specs.Instances.{problem_of}
-use Rattle.seq_solo.proofs.CountLaws.{low-sum}
+use Rattle.std.proofs.Common.{◌∙◌, sym, ap, subst}
+use Rattle.seq_solo.specs.Thinned.{counted_sum, IsCountable}
+use Rattle.seq_solo.proofs.CountLaws.{countable, counted-is}
 use Rattle.seq_solo.proofs.choice.low_sum.Goals as goal
 
-pub overflow_mul-result : goal.overflow_mul-result
-overflow_mul-result c =
+pub sum_of-requires : goal.sum_of-requires
+sum_of-requires c =
     let s = c.args.search.now in
     let inst = c.args.inst.now in
-    let cost : c.from.result ≡ (problem_of inst).cost c.args.split.test = c.from.ensures ∙ get_or_read inst.costs.items c.args.split.test c.index-3.result.now c.requires.there c.index-3.ensures 0 in
-    let f = low-sum inst s.numbers s.rows.items s.kept.items s.counts.items c.requires.known c.args.place c.requires.place c.args.split c.from.result c.index-4.result.now c.index.result.now c.index-2.result.now c.requires.parts c.requires.there cost c.index-4.ensures c.index.ensures c.index-2.ensures in
-    omega (arith, f.product)
-
-pub overflow_add-result : goal.overflow_add-result
-overflow_add-result c =
-    let s = c.args.search.now in
-    let inst = c.args.inst.now in
-    let cost : c.from.result ≡ (problem_of inst).cost c.args.split.test = c.from.ensures ∙ get_or_read inst.costs.items c.args.split.test c.index-3.result.now c.requires.there c.index-3.ensures 0 in
-    let f = low-sum inst s.numbers s.rows.items s.kept.items s.counts.items c.requires.known c.args.place c.requires.place c.args.split c.from.result c.index-4.result.now c.index.result.now c.index-2.result.now c.requires.parts c.requires.there cost c.index-4.ensures c.index.ensures c.index-2.ensures in
-    omega (arith, f.passing, f.failing)
-
-pub overflow_add-result-2 : goal.overflow_add-result-2
-overflow_add-result-2 c =
-    let s = c.args.search.now in
-    let inst = c.args.inst.now in
-    let cost : c.from.result ≡ (problem_of inst).cost c.args.split.test = c.from.ensures ∙ get_or_read inst.costs.items c.args.split.test c.index-3.result.now c.requires.there c.index-3.ensures 0 in
-    let f = low-sum inst s.numbers s.rows.items s.kept.items s.counts.items c.requires.known c.args.place c.requires.place c.args.split c.from.result c.index-4.result.now c.index.result.now c.index-2.result.now c.requires.parts c.requires.there cost c.index-4.ensures c.index.ensures c.index-2.ensures in
-    omega (arith, f.product, f.passing, f.failing)
+    subst (λ l. IsCountable inst.costs.items c.index.result.now.weight l c.args.split) (sym c.as_slice.ensures.value)
+    (countable inst s.numbers s.rows.items s.kept.items s.counts.items c.requires.known c.args.place c.requires.place c.args.split c.index.result.now c.requires.parts c.requires.there c.index.ensures)
 
 pub returns : goal.returns
 returns c =
     let s = c.args.search.now in
     let inst = c.args.inst.now in
-    let cost : c.from.result ≡ (problem_of inst).cost c.args.split.test = c.from.ensures ∙ get_or_read inst.costs.items c.args.split.test c.index-3.result.now c.requires.there c.index-3.ensures 0 in
-    (low-sum inst s.numbers s.rows.items s.kept.items s.counts.items c.requires.known c.args.place c.requires.place c.args.split c.from.result c.index-4.result.now c.index.result.now c.index-2.result.now c.requires.parts c.requires.there cost c.index-4.ensures c.index.ensures c.index-2.ensures).sum
+    c.sum_of.ensures ∙ ap (λ l. counted_sum inst.costs.items c.index.result.now.weight l c.args.split) c.as_slice.ensures.value
+    ∙ counted-is inst s.numbers s.rows.items s.kept.items s.counts.items c.requires.known c.args.place c.requires.place c.args.split c.index.result.now c.requires.parts c.index.ensures

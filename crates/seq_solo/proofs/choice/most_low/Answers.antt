@@ -19,4 +19,4 @@ returns c =
     let kept = kept-read p s.numbers s.rows.items s.kept.items s.counts.items c.requires.known c.args.place c.index.result.now c.requires.place c.index.ensures in
     let rows = c.requires.known.rows_are in
     let first = least_test-first p (step_sum p l g) g c.least_test-chosen.result.split.test c.args.inst.now.valid.told (row-within p s.rows.items rows c.args.place c.requires.place) (row-real p s.rows.items rows c.args.place c.requires.place).goals c.least_test-chosen.ensures.test in
-    c.max.ensures ∙ most_low-is p l g c.least_test-chosen.result.split.test c.index.result.now.bound c.least_test-chosen.result.sum kept.bound c.least_test-chosen.ensures.sum first
+    c.max.ensures ∙ most_low-is p l g c.least_test-chosen.result.split.test c.index.result.now.bound c.least_test-chosen.result.sum kept.bound_is c.least_test-chosen.ensures.sum first

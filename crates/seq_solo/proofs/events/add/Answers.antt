@@ -7,11 +7,12 @@ use Rattle.seq_inst.specs.Instances.{problem_of}
 use Rattle.seq_inst.specs.Members.{members}
 use Rattle.seq_inst.specs.declared.outcome.Row.{Row}
 use Rattle.seq_solo.specs.declared.search.Count.{Count}
-use Rattle.seq_solo.specs.Known.{AreKnown, count_of, no_count}
+use Rattle.seq_solo.specs.Known.{AreKnown, count_of}
 use Rattle.seq_solo.proofs.NumberLaws.{keeps-long}
 use Rattle.seq_solo.proofs.CountLaws.{counts-long}
 use Rattle.seq_solo.proofs.CountChanges.{counts-grown, added-known}
 use Rattle.seq_solo.proofs.events.add.Goals as goal
+use Rattle.seq_solo.specs.Counts.{no_count}
 
 pub of-requires-clause-within : goal.of-requires-clause-within
 of-requires-clause-within c = wanted-within (problem_of c.args.inst.now) (members c.args.group.now) c.requires.real.wanted
