@@ -21,7 +21,7 @@ use Rattle.seq_inst.proofs.MembersLaws.{length-members_below}
 use Rattle.seq_inst.proofs.WithinLaws.{light}
 use Rattle.seq_huff.proofs.Written.{passing-all, length-passing}
 
-sum-weights : (p : Problem) (xs : List ℕ) → sum (map p.weight xs) ≡ weight_of p xs
+pub sum-weights : (p : Problem) (xs : List ℕ) → sum (map p.weight xs) ≡ weight_of p xs
 sum-weights p [] = refl
 sum-weights p (x ∷ xs) = sum_by-cons (λ n. n) (p.weight x) (map p.weight xs) ∙ ap (λ n. p.weight x + n) (sum-weights p xs)
 

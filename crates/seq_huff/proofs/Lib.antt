@@ -8,3 +8,7 @@ pub mod BoundFits
 pub mod GreedyCode
 pub mod LeastBounds
 pub mod GreedyShape
+pub mod CountedLaws
+pub mod RankLaws
+pub mod OrderLaws
+pub mod FirstCostLaws

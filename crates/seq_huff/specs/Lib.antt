@@ -1,3 +1,5 @@
 pub mod Choice
 pub mod Bounds
 pub mod Queues
+pub mod Orders
+pub mod Ranks

@@ -5,11 +5,17 @@
 //! splitting tests, and that bound one test further. From above there is what the greedy strategy
 //! costs. The calls work in a `Scratch` of fixed arrays and take no memory; only `greedy` does, for the
 //! strategy that it makes.
+//!
+//! A search asks for the bounds of many groups of one instance. It makes an `Order` of the instance once,
+//! and `ordered_bound` then gives each bound without a sort.
 #![tactic(auto)]
 
 mod choice;
 mod lower;
 mod merging;
+mod order;
+mod ordered;
+mod ranked;
 mod scratch;
 mod sorting;
 mod steps;
@@ -19,6 +25,8 @@ mod weights;
 
 pub use choice::{greedy, greedy_cost};
 pub use lower::bound;
+pub use order::Order;
+pub use ordered::ordered_bound;
 pub use scratch::Scratch;
 pub use steps::one_step;
 pub use weights::huffman;

@@ -47,7 +47,7 @@ fn take_least(numbers: &[u64], made: usize, fronts: &mut Fronts) -> u64
 }
 
 /// What merging the two least again and again costs, of numbers in upward order, which are given up.
-fn merge_sum(numbers: &mut [u64]) -> u64
+pub(crate) fn merge_sum(numbers: &mut [u64]) -> u64
     requires up { numbers.old ≡ upward numbers.old }
     requires fits { length numbers.old * sum numbers.old < 2 ^ 64 }
     ensures { result ≡ merge_cost (length numbers.old) numbers.old }

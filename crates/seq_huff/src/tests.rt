@@ -2,7 +2,7 @@
 ghost use Rattle.std.specs.Prelude.{◌≡◌, IfOk, vec_len};
 
 use crate::merging::huffman_of;
-use crate::{Scratch, bound, greedy, greedy_cost, huffman, one_step};
+use crate::{Order, Scratch, bound, greedy, greedy_cost, huffman, one_step, ordered_bound};
 use seq_inst::{Answer, Group, Instance, cost_of, part, root};
 use std::alloc::{AllocError, Global};
 use std::test::Fail;
@@ -100,5 +100,29 @@ fn bounds_of_a_star(rt: HostRuntime) -> Result<(), Fail> {
 fn huffmans_cost_of_many_weights(rt: HostRuntime) -> Result<(), Fail> {
     assert_eq!(rt; huffman_of(&mut [1_000_000; 101]), 680_000_000);
     assert_eq!(rt; huffman_of(&mut [1; 512]), 4_608);
+    Ok(())
+}
+
+/// Whether the bound is the same with an order, of all classes and of those that pass the first test.
+fn order_agrees(alloc: Global, inst: &Instance) -> Result<bool, AllocError> {
+    let mut scratch = Scratch::new();
+    let order = Order::of(alloc, inst)?;
+    let all = root(inst);
+    let whole = ordered_bound(&mut scratch, &order, inst, &all) == bound(&mut scratch, inst, &all);
+    if inst.costs.is_empty() {
+        return Ok(whole);
+    }
+    let some = part(inst, &all, 0, Answer::Pass);
+    let passed = ordered_bound(&mut scratch, &order, inst, &some)
+        == bound(&mut scratch, inst, &some);
+    Ok(whole && passed)
+}
+
+#[test]
+fn an_order_changes_no_bound(rt: HostRuntime) -> Result<(), Fail> {
+    let alloc = rt.alloc();
+    assert!(rt; order_agrees(alloc, &two_faults(alloc)?)?);
+    assert!(rt; order_agrees(alloc, &receiver(alloc)?)?);
+    assert!(rt; order_agrees(alloc, &star(alloc)?)?);
     Ok(())
 }
