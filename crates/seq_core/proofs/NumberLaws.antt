@@ -16,6 +16,7 @@ use Rattle.seq_theory.specs.Graph.{same_group, is_entered}
 use Rattle.seq_theory.specs.Greedy.{greedy_cost}
 use Rattle.seq_theory.specs.Rows.{AreDistinct}
 use Rattle.seq_theory.proofs.RowLaws.{same_group-true, same_group-refl}
+use Rattle.seq_huff.specs.declared.order.Order.{Order}
 use Rattle.seq_inst.proofs.SameGroups.{AreWords as AreEightWords, same_members}
 use Rattle.seq_core.specs.Words.{IsWords, AreWords, classes_of}
 use Rattle.seq_core.specs.Numbered.{Numbered, HasNumber, AreNumbers, KeepsNumbers}
@@ -152,7 +153,7 @@ distinct-more (g ∷ rest) n d e = (
 
 -- the groups with one more, of which greedy's cost is not known
 abbrev pub with_group : Numbered → List ℕ → ℕ → Numbered
-with_group v group b = record { groups = v.groups ++ group ∷ []; bounds = v.bounds ++ b ∷ []; costs = v.costs ++ None ∷ [] }
+with_group v group b = record v { groups = v.groups ++ group ∷ []; bounds = v.bounds ++ b ∷ []; costs = v.costs ++ None ∷ [] }
 
 pub keeps-more : (v : Numbered) (group : List ℕ) (b : ℕ) → KeepsNumbers v (with_group v group b)
 keeps-more v group b g n e = get-before v.groups (group ∷ []) n g e
@@ -161,21 +162,21 @@ pub number-more : (v : Numbered) (group : List ℕ) (b n : ℕ) → n ≡ length
 number-more v group b n e = ap (slice_get (v.groups ++ group ∷ [])) e ∙ get-last v.groups group
 
 -- the table's entries and costs, as they are seen
-abbrev pub numbered_from : List (List ℕ × ℕ) → List (Option ℕ) → Numbered
-numbered_from entries costs = record { groups = map classes_of (keys_of entries); bounds = values_of entries; costs = costs }
+abbrev pub numbered_from : Order → List (List ℕ × ℕ) → List (Option ℕ) → Numbered
+numbered_from order entries costs = record { order = order; groups = map classes_of (keys_of entries); bounds = values_of entries; costs = costs }
 
-abbrev numbered : List (List ℕ) → List ℕ → List (Option ℕ) → Numbered
-numbered groups bounds costs = record { groups = groups; bounds = bounds; costs = costs }
+abbrev numbered : Order → List (List ℕ) → List ℕ → List (Option ℕ) → Numbered
+numbered order groups bounds costs = record { order = order; groups = groups; bounds = bounds; costs = costs }
 
 -- with one more entry
-pub view-more : (old new : List (List ℕ × ℕ)) (words : List ℕ) (b : ℕ) (costs more : List (Option ℕ)) → new ≡ old ++ (words, b) ∷ [] → more ≡ costs ++ None ∷ [] → (v : Numbered)
-    → numbered_from old costs ≡ v → numbered_from new more ≡ with_group v (classes_of words) b
-view-more old new words b costs more e m v is =
+pub view-more : (order : Order) (old new : List (List ℕ × ℕ)) (words : List ℕ) (b : ℕ) (costs more : List (Option ℕ)) → new ≡ old ++ (words, b) ∷ [] → more ≡ costs ++ None ∷ [] → (v : Numbered)
+    → numbered_from order old costs ≡ v → numbered_from order new more ≡ with_group v (classes_of words) b
+view-more order old new words b costs more e m v is =
     let groups : map classes_of (keys_of new) ≡ map classes_of (keys_of old) ++ classes_of words ∷ [] = ap (map classes_of) (keys-more old new words b e) ∙ map-append classes_of (keys_of old) (words ∷ []) in
     let bounds : values_of new ≡ values_of old ++ b ∷ [] = values-more old new words b e in
-    ap (λ l. numbered l (values_of new) more) groups
-    ∙ ap (λ l. numbered (map classes_of (keys_of old) ++ classes_of words ∷ []) l more) bounds
-    ∙ ap (numbered (map classes_of (keys_of old) ++ classes_of words ∷ []) (values_of old ++ b ∷ [])) m
+    ap (λ l. numbered order l (values_of new) more) groups
+    ∙ ap (λ l. numbered order (map classes_of (keys_of old) ++ classes_of words ∷ []) l more) bounds
+    ∙ ap (numbered order (map classes_of (keys_of old) ++ classes_of words ∷ []) (values_of old ++ b ∷ [])) m
     ∙ ap (λ (u : Numbered). with_group u (classes_of words) b) is
 
 none-some : (c : ℕ) → Some c ≡ None → ⊥
@@ -184,6 +185,7 @@ none-some c e = cc
 module _ (p : Problem) (v : Numbered) (are : AreNumbers p v) where
   pub numbers-more : (group : List ℕ) (b : ℕ) → is_entered v.groups group ≡ false → IsWithin p group → b ≡ bound p group → AreNumbers p (with_group v group b)
   numbers-more group b absent within is = record {
+    order = are.order;
     distinct = distinct-more v.groups group are.distinct absent;
     within = λ g n e. elim (get-more v.groups group n g e) [
       | inl old ↦ are.within g n old
@@ -203,6 +205,7 @@ module _ (p : Problem) (v : Numbered) (are : AreNumbers p v) where
   -- greedy's cost of a group that has a number
   pub numbers-cost : (group : List ℕ) (n cost : ℕ) → HasNumber v group n → cost ≡ greedy_cost p group → AreNumbers p (record v { costs = set v.costs n (Some cost) })
   numbers-cost group n cost has is = record {
+    order = are.order;
     distinct = are.distinct;
     within = are.within;
     bounds = are.bounds;

@@ -4,9 +4,13 @@ use Rattle.seq_theory.specs.Problem.{Problem, IsWithin}
 use Rattle.seq_theory.specs.Bound.{bound}
 use Rattle.seq_theory.specs.Greedy.{greedy_cost}
 use Rattle.seq_theory.specs.Rows.{AreDistinct}
+use Rattle.seq_huff.specs.declared.order.Order.{Order}
+use Rattle.seq_huff.specs.Orders.{IsOrderOf}
 
--- the groups, as lists of classes, by number; their bounds; and what greedy costs over each, where that was worked out
+-- the order by which bounds are worked out; the groups, as lists of classes, by number; their bounds; and what greedy costs
+-- over each, where that was worked out
 pub record Numbered : Type 0 where
+  pub order : Order
   pub groups : List (List ℕ)
   pub bounds : List ℕ
   pub costs : List (Option ℕ)
@@ -15,8 +19,9 @@ pub record Numbered : Type 0 where
 abbrev pub HasNumber : Numbered → List ℕ → ℕ → Type 0
 HasNumber v group n = slice_get v.groups n ≡ Some group
 
--- no group has two numbers, and what is kept of each is what working it out afresh gives
+-- the order is the problem's, no group has two numbers, and what is kept of each is what working it out afresh gives
 pub record AreNumbers (p : Problem) (v : Numbered) : Type 0 where
+  pub order : IsOrderOf p v.order
   pub distinct : AreDistinct v.groups
   pub within : (group : List ℕ) (n : ℕ) → HasNumber v group n → IsWithin p group
   pub bounds : v.bounds ≡ map (bound p) v.groups

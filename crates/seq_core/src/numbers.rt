@@ -14,7 +14,7 @@ ghost use Rattle.seq_core.specs.Numbered.{HasNumber, AreNumbers, KeepsNumbers};
 
 use crate::words::know_words;
 use indexmap::IndexMap;
-use seq_huff::{Scratch, bound, greedy_cost};
+use seq_huff::{Order, Scratch, greedy_cost, ordered_bound};
 use seq_inst::{Group, Instance};
 use std::alloc::{AllocError, Global};
 use std::marker::Model;
@@ -22,6 +22,8 @@ use std::marker::Model;
 /// Groups by number.
 #[derive(Drop)]
 pub struct Numbers {
+    /// The weights and the costs in order, so that no bound sorts them.
+    order: Order,
     /// The bound of each group by its words, in the order of numbers.
     bounds: IndexMap<[u64; 8], u64>,
     /// What greedy costs over each group, by number.
@@ -36,7 +38,7 @@ impl Model for Numbers {
 
     ghost Value = { Numbered };
 
-    ghost view = { λ m. record { groups = map classes_of (keys m.bounds); bounds = values m.bounds; costs = m.costs.items } };
+    ghost view = { λ m. record { order = m.order; groups = map classes_of (keys m.bounds); bounds = values m.bounds; costs = m.costs.items } };
 
     ghost invariant = { λ m. record {
       words : AreWords (keys m.bounds);
@@ -46,14 +48,17 @@ impl Model for Numbers {
 }
 
 impl Numbers {
-    /// No numbers yet. Takes no memory.
-    pub fn new(alloc: Global) -> Numbers
-        ensures { result ≡ record { groups = []; bounds = []; costs = [] } }
+    /// No numbers yet.
+    pub fn new(alloc: Global, inst: &Instance) -> Result<Numbers, AllocError>
+        ensures numbers { IfOk result (AreNumbers (problem_of inst.now)) }
+        ensures none { IfOk result (λ v. v.groups ≡ []) }
     {
-        Numbers {
+        let order = Order::of(alloc, inst)?;
+        Ok(Numbers {
+            order,
             bounds: IndexMap::new(alloc),
             costs: Vec::new(alloc),
-        }
+        })
     }
 
     /// How many groups have numbers.
@@ -115,7 +120,7 @@ impl Numbers {
     fn add(&mut self, group: &Group, bound: u64) -> Result<u32, AllocError>
         requires { is_entered self.old.groups (members group.now) ≡ false }
         ensures number { IfOk result (λ n. n ≡ length self.old.groups) }
-        ensures ok { OnOk result (self.new ≡ record { groups = self.old.groups ++ members group.now ∷ []; bounds = self.old.bounds ++ bound ∷ []; costs = self.old.costs ++ None ∷ [] }) }
+        ensures ok { OnOk result (self.new ≡ record self.old { groups = self.old.groups ++ members group.now ∷ []; bounds = self.old.bounds ++ bound ∷ []; costs = self.old.costs ++ None ∷ [] }) }
         ensures err { OnErr result (self.new ≡ self.old) }
     {
         know_words(group);
@@ -145,8 +150,18 @@ impl Numbers {
         if let Some(number) = self.find(group) {
             return Ok(number);
         }
-        let bound = bound(scratch, inst, group);
+        let bound = self.fresh_bound(scratch, inst, group);
         self.add(group, bound)
+    }
+
+    /// The bound of the group, worked out afresh.
+    fn fresh_bound(&self, scratch: &mut Scratch, inst: &Instance, group: &Group) -> u64
+        requires numbers { AreNumbers (problem_of inst.now) self.now }
+        requires within { IsWithin (problem_of inst.now) (members group.now) }
+        ensures value { result ≡ bound_by (problem_of inst.now) (members group.now) }
+        ensures fits { result ≤ greatest_cost }
+    {
+        ordered_bound(scratch, &self.order, inst, group)
     }
 
     /// The bound of the group: the kept one, or worked out afresh. It gives no number.
@@ -158,7 +173,7 @@ impl Numbers {
     {
         match self.find(group) {
             Some(number) => self.bound_at(number),
-            None => bound(scratch, inst, group),
+            None => self.fresh_bound(scratch, inst, group),
         }
     }
 

@@ -63,7 +63,7 @@ fn what_is_kept_of_two_faults(rt: HostRuntime) -> Result<(), Fail> {
     let inst = two_faults(alloc)?;
     let all = root(&inst);
     let passing = part(&inst, &all, 0, Answer::Pass);
-    let mut numbers = Numbers::new(alloc);
+    let mut numbers = Numbers::new(alloc, &inst)?;
     let kept = Kept::of(alloc, &mut scratch, &mut numbers, &inst, &all)?;
     assert_eq!(rt; (kept.number, kept.weight), (0, 10));
     assert_eq!(rt; (kept.bound, kept.greedy), (18, 27));

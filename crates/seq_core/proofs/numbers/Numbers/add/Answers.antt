@@ -38,4 +38,4 @@ returns-clause-ok c =
     let absent : is_entered (map classes_of (keys old)) (members g) ≡ false = subst (λ (v : Numbered). is_entered v.groups (members g) ≡ false) (sym c.self.view_is) c.requires in
     let entries : c.insert.new.self.entries ≡ old.entries ++ (g.0, c.args.bound) ∷ [] = c.in_ok-insert.ensures.entries ∙ insert_entry-new bytes_eq old g.0 c.args.bound (absent-key old.entries g.0 absent) in
     let pushed : c.push.new.self.items ≡ c.self.inside.costs.items ++ None ∷ [] = search rules in
-    view-more old.entries c.insert.new.self.entries g.0 c.args.bound c.self.inside.costs.items c.push.new.self.items entries pushed c.args.self.now c.self.view_is
+    view-more c.self.inside.order old.entries c.insert.new.self.entries g.0 c.args.bound c.self.inside.costs.items c.push.new.self.items entries pushed c.args.self.now c.self.view_is
