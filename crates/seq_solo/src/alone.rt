@@ -45,7 +45,7 @@ pub fn solve_alone(alloc: Global, inst: &Instance, limit: u32) -> Result<Found, 
     ensures numbers { IfOk result (λ f. AreNumbers (problem_of inst.now) f.numbers) }
 {
     let all = root(inst);
-    let mut search = Search::new(alloc);
+    let mut search = Search::new(alloc, inst)?;
     if is_leaf(inst, &all) {
         return Ok(found_by(search, None));
     }

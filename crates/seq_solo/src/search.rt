@@ -1,13 +1,13 @@
 //! What a search knows. Each group that was met has a number, and beside the numbers stands what each
 //! group counts. A group that was entered has a row, and beside the rows stands what is kept of each
 //! group. So the sum of a test over what its parts count is two look-ups by number.
-ghost use Rattle.seq_theory.specs.Problem.{Problem};
+ghost use Rattle.std.specs.Prelude.{◌≡◌, [], IfOk};
+ghost use Rattle.seq_inst.specs.Instances.{problem_of};
 ghost use Rattle.seq_solo.specs.Known.{IsKnown};
-ghost use Rattle.std.specs.Prelude.{◌≡◌, []};
 
 use seq_core::{Kept, Numbers};
-use seq_inst::Row;
-use std::alloc::Global;
+use seq_inst::{Instance, Row};
+use std::alloc::{AllocError, Global};
 
 /// What a group counts for a low and for an up, and the place of its row, if it has one.
 #[derive(Clone, Copy)]
@@ -32,15 +32,16 @@ pub(crate) struct Search {
 
 impl Search {
     /// Nothing is known yet.
-    pub(crate) fn new(alloc: Global) -> Search
-        ensures rows { result.rows.items ≡ [] }
-        ensures known { (p : Problem) → IsKnown p result }
+    pub(crate) fn new(alloc: Global, inst: &Instance) -> Result<Search, AllocError>
+        ensures rows { IfOk result (λ s. s.rows.items ≡ []) }
+        ensures known { IfOk result (IsKnown (problem_of inst.now)) }
     {
-        Search {
-            numbers: Numbers::new(alloc),
+        let numbers = Numbers::new(alloc, inst)?;
+        Ok(Search {
+            numbers,
             rows: Vec::new(alloc),
             kept: Vec::new(alloc),
             counts: Vec::new(alloc),
-        }
+        })
     }
 }

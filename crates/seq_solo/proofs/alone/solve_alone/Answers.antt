@@ -23,10 +23,7 @@ returns-then-is_leaf-clause-stopped c =
     (subst (HasEnded p c.args.limit rows) (sym c.found_by.ensures.missed) (nothing-solved p rows (sym (ap (is_end p) c.root-all.ensures) ∙ sym c.is_leaf.ensures ∙ c.if-is_leaf.true)))
 
 pub returns-then-is_leaf-clause-numbers : goal.returns-then-is_leaf-clause-numbers
-returns-then-is_leaf-clause-numbers c = let p = problem_of c.args.inst.now in subst (AreNumbers p) (sym c.found_by.ensures.numbers) (c.new-search.ensures.known p).numbers_are
-
-pub enter-requires-clause-known : goal.enter-requires-clause-known
-enter-requires-clause-known c = c.new-search.ensures.known (problem_of c.args.inst.now)
+returns-then-is_leaf-clause-numbers c = let p = problem_of c.args.inst.now in subst (AreNumbers p) (sym c.found_by.ensures.numbers) c.in_ok-search.ensures.known.numbers_are
 
 pub enter-requires-clause-real : goal.enter-requires-clause-real
 enter-requires-clause-real c = root-real (problem_of c.args.inst.now) c.root-all.result c.root-all.ensures (sym c.is_leaf.ensures ∙ c.if-is_leaf.false)
