@@ -2,7 +2,9 @@
 //!
 //! `Places` maps groups to places. `Core` is the list of rows under three events, enter, raise and cap,
 //! each of which it accepts exactly where the rows allow it; so the rows stay sound whatever is played.
-//! `lows` and `vals` work out the best bounds that a set of entered groups gives.
+//! `lows` and `vals` work out the best bounds that a set of entered groups gives. `Numbers` keeps the
+//! bound of each group that a search has met, and greedy's cost where it was asked for, and `Kept` is
+//! what an engine keeps of a group that it enters; both save work and change no result.
 #![tactic(auto)]
 
 mod event;

@@ -6,10 +6,12 @@ ghost use Rattle.seq_theory.specs.Graph.{IsReal};
 ghost use Rattle.seq_theory.specs.Rows.{IsAllowed};
 ghost use Rattle.seq_inst.specs.Members.{members};
 ghost use Rattle.seq_inst.specs.Instances.{problem_of};
+ghost use Rattle.seq_core.specs.Numbered.{AreNumbers};
 ghost use Rattle.seq_core.specs.RowsOf.{rows_of, place_in};
 ghost use Rattle.seq_core.specs.Events.{event_of, EntersReal, rows_after, enter_refusal, raise_refusal, cap_refusal, refusal, answer, IsCoreOf};
 
 use crate::event::{Event, Illegal};
+use crate::numbers::Numbers;
 use crate::table::Entered;
 use seq_huff::Scratch;
 use seq_inst::{Group, Instance, Row};
@@ -51,14 +53,16 @@ impl Core {
     }
 
     /// Plays the event where the rows allow it; a refusal changes nothing. The instance is that of `new`.
-    /// Entering works out what is kept of the group; raising asks two bounds for each splitting test at
-    /// most.
+    /// Entering asks the numbers for the group's bound and greedy's cost, and raising for two bounds for
+    /// each splitting test at most; what the numbers don't have is worked out.
     pub fn step(
         &mut self,
         scratch: &mut Scratch,
         inst: &Instance,
+        numbers: &Numbers,
         event: Event,
     ) -> Result<(), Illegal>
+        requires numbers { AreNumbers (problem_of inst.now) numbers.now }
         requires of { IsCoreOf (problem_of inst.now) self.old }
         requires real { EntersReal (problem_of inst.now) event }
         ensures of { IsCoreOf (problem_of inst.now) self.new }
@@ -73,8 +77,8 @@ impl Core {
         ensures err { OnErr result (self.new ≡ self.old) }
     {
         match event {
-            Event::Enter { group } => self.enter(scratch, inst, &group),
-            Event::Raise { place, to } => self.raise(scratch, inst, place, to),
+            Event::Enter { group } => self.enter(scratch, inst, numbers, &group),
+            Event::Raise { place, to } => self.raise(scratch, inst, numbers, place, to),
             Event::Cap { place, to } => self.cap(inst, place, to),
         }
     }
@@ -84,8 +88,10 @@ impl Core {
         &mut self,
         scratch: &mut Scratch,
         inst: &Instance,
+        numbers: &Numbers,
         group: &Group,
     ) -> Result<(), Illegal>
+        requires numbers { AreNumbers (problem_of inst.now) numbers.now }
         requires of { IsCoreOf (problem_of inst.now) self.old }
         requires real { IsReal (problem_of inst.now) (members group.now) }
         ensures of { IsCoreOf (problem_of inst.now) self.new }
@@ -101,7 +107,7 @@ impl Core {
         if rows >= self.entered.room() {
             return Err(Illegal::Limit { rows });
         }
-        self.entered.enter(scratch, inst, group);
+        self.entered.enter(scratch, inst, numbers, group);
         Ok(())
     }
 
@@ -110,10 +116,12 @@ impl Core {
         &mut self,
         scratch: &mut Scratch,
         inst: &Instance,
+        numbers: &Numbers,
         place: u32,
         to: u64,
     ) -> Result<(), Illegal>
-        requires { IsCoreOf (problem_of inst.now) self.old }
+        requires numbers { AreNumbers (problem_of inst.now) numbers.now }
+        requires of { IsCoreOf (problem_of inst.now) self.old }
         ensures of { IsCoreOf (problem_of inst.now) self.new }
         ensures limit { self.new.room ≡ self.old.room }
         ensures answer { result ≡ answer (raise_refusal (problem_of inst.now) (rows_of self.old.rows) to (slice_get (rows_of self.old.rows) place)) }
@@ -124,7 +132,7 @@ impl Core {
         if place >= rows {
             return Err(Illegal::NoPlace { rows });
         }
-        let allowed = self.entered.most_low(scratch, inst, place);
+        let allowed = self.entered.most_low(scratch, inst, numbers, place);
         if to > allowed {
             return Err(Illegal::TooHigh { asked: to, allowed });
         }

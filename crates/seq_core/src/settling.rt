@@ -1,13 +1,16 @@
 //! The best bounds that a set of entered groups gives. The rows are gone through by size: a group's parts
 //! have fewer classes than it has, so when its turn comes their bounds are final, and each group is
 //! looked at once. Raising a row to the most that the others allow then gives its low, and capping it to
-//! the least gives its value.
+//! the least gives its value. Bounds and greedy's costs are taken from the numbers that a search hands
+//! in, and are worked out where these don't have them: the result is the same for any numbers.
 ghost use Rattle.std.specs.Prelude.{◌≡◌, ◌+◌, ◌<◌, ◌≤◌, List, map, length, take, IfOk};
 ghost use Rattle.seq_theory.specs.Graph.{low, val};
 ghost use Rattle.seq_inst.specs.Members.{members};
 ghost use Rattle.seq_inst.specs.Instances.{problem_of};
+ghost use Rattle.seq_core.specs.Numbered.{AreNumbers};
 ghost use Rattle.seq_core.specs.Settled.{groups_in, value_or, AreGroups, settled_rows, size_at, IsSettledTo};
 
+use crate::numbers::Numbers;
 use crate::table::Entered;
 use seq_huff::Scratch;
 use seq_inst::{Instance, Row, count_of};
@@ -18,9 +21,11 @@ fn entered_from(
     alloc: Global,
     scratch: &mut Scratch,
     inst: &Instance,
+    numbers: &Numbers,
     rows: &[Row],
 ) -> Result<Entered, AllocError>
-    requires { AreGroups (problem_of inst.now) rows.now }
+    requires numbers { AreNumbers (problem_of inst.now) numbers.now }
+    requires groups { AreGroups (problem_of inst.now) rows.now }
     ensures { IfOk result (λ t. IsSettledTo (problem_of inst.now) rows.now t 2 0) }
 {
     let Ok(room) = u32::try_from(rows.len()) else {
@@ -28,7 +33,7 @@ fn entered_from(
     };
     let mut table = Entered::new(alloc, room)?;
     for row in rows {
-        table.enter(scratch, inst, &row.group);
+        table.enter(scratch, inst, numbers, &row.group);
     }
     Ok(table)
 }
@@ -37,11 +42,13 @@ fn entered_from(
 fn settle_row(
     scratch: &mut Scratch,
     inst: &Instance,
+    numbers: &Numbers,
     table: &mut Entered,
     rows: &[Row],
     size: u32,
     place: u32,
 )
+    requires numbers { AreNumbers (problem_of inst.now) numbers.now }
     requires settled { IsSettledTo (problem_of inst.now) rows.now table.old size place }
     requires there { place < length rows.now }
     requires size { size_at rows.now place ≡ size }
@@ -49,7 +56,7 @@ fn settle_row(
 {
     let _ = rows;
     let _ = size;
-    let low = table.most_low(scratch, inst, place);
+    let low = table.most_low(scratch, inst, numbers, place);
     let up = table.least_up(inst, place);
     table.raise(place, low);
     table.cap(place, up);
@@ -59,18 +66,20 @@ fn settle_row(
 fn settle_size(
     scratch: &mut Scratch,
     inst: &Instance,
+    numbers: &Numbers,
     table: &mut Entered,
     rows: &[Row],
     sizes: &[u32],
     size: u32,
 )
+    requires numbers { AreNumbers (problem_of inst.now) numbers.now }
     requires settled { IsSettledTo (problem_of inst.now) rows.now table.old size 0 }
     requires sizes { sizes.now ≡ map (λ r. length (members r.group)) rows.now }
     ensures { IsSettledTo (problem_of inst.now) rows.now table.new (size + 1) 0 }
 {
     for place in 0..table.len() {
         if sizes[place as usize] == size {
-            settle_row(scratch, inst, table, rows, size, place);
+            settle_row(scratch, inst, numbers, table, rows, size, place);
         }
     }
 }
@@ -80,15 +89,25 @@ fn settled_table(
     alloc: Global,
     scratch: &mut Scratch,
     inst: &Instance,
+    numbers: &Numbers,
     rows: &[Row],
 ) -> Result<Entered, AllocError>
-    requires { AreGroups (problem_of inst.now) rows.now }
+    requires numbers { AreNumbers (problem_of inst.now) numbers.now }
+    requires groups { AreGroups (problem_of inst.now) rows.now }
     ensures { IfOk result (λ t. t.rows ≡ settled_rows (problem_of inst.now) rows.now) }
 {
-    let mut table = entered_from(alloc, scratch, inst, rows)?;
+    let mut table = entered_from(alloc, scratch, inst, numbers, rows)?;
     let sizes = sizes_in(alloc, rows)?;
     for size in 2..513 {
-        settle_size(scratch, inst, &mut table, rows, sizes.as_slice(), size);
+        settle_size(
+            scratch,
+            inst,
+            numbers,
+            &mut table,
+            rows,
+            sizes.as_slice(),
+            size,
+        );
     }
     Ok(table)
 }
@@ -98,12 +117,14 @@ pub fn settle(
     alloc: Global,
     scratch: &mut Scratch,
     inst: &Instance,
+    numbers: &Numbers,
     rows: &[Row],
 ) -> Result<Vec<Row>, AllocError>
-    requires { AreGroups (problem_of inst.now) rows.now }
+    requires numbers { AreNumbers (problem_of inst.now) numbers.now }
+    requires groups { AreGroups (problem_of inst.now) rows.now }
     ensures { IfOk result (λ v. v.items ≡ settled_rows (problem_of inst.now) rows.now) }
 {
-    let table = settled_table(alloc, scratch, inst, rows)?;
+    let table = settled_table(alloc, scratch, inst, numbers, rows)?;
     Ok(table.into_rows())
 }
 
@@ -133,12 +154,14 @@ pub fn lows(
     alloc: Global,
     scratch: &mut Scratch,
     inst: &Instance,
+    numbers: &Numbers,
     rows: &[Row],
 ) -> Result<Vec<u64>, AllocError>
-    requires { AreGroups (problem_of inst.now) rows.now }
+    requires numbers { AreNumbers (problem_of inst.now) numbers.now }
+    requires groups { AreGroups (problem_of inst.now) rows.now }
     ensures { IfOk result (λ v. v.items ≡ map (low (problem_of inst.now) (groups_in rows.now)) (groups_in rows.now)) }
 {
-    let table = settled_table(alloc, scratch, inst, rows)?;
+    let table = settled_table(alloc, scratch, inst, numbers, rows)?;
     let lows = lows_in(alloc, table.rows())?;
     Ok(lows)
 }
@@ -148,12 +171,14 @@ pub fn vals(
     alloc: Global,
     scratch: &mut Scratch,
     inst: &Instance,
+    numbers: &Numbers,
     rows: &[Row],
 ) -> Result<Vec<u64>, AllocError>
-    requires { AreGroups (problem_of inst.now) rows.now }
+    requires numbers { AreNumbers (problem_of inst.now) numbers.now }
+    requires groups { AreGroups (problem_of inst.now) rows.now }
     ensures { IfOk result (λ v. v.items ≡ map (λ g. value_or (val (problem_of inst.now) (groups_in rows.now) g)) (groups_in rows.now)) }
 {
-    let table = settled_table(alloc, scratch, inst, rows)?;
+    let table = settled_table(alloc, scratch, inst, numbers, rows)?;
     let ups = ups_in(alloc, table.rows())?;
     Ok(ups)
 }

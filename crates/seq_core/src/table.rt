@@ -1,6 +1,7 @@
 //! The entered groups with their bounds: a row for each, what is kept of it, and the map that finds its
 //! place. From them comes to what a group's low may be raised, and to what its up may be capped: a part
-//! that has a row counts by its row, any other by its bound, and has no up.
+//! that has a row counts by its row, any other by its bound, which the numbers know as a rule, and has no
+//! up.
 ghost use Rattle.std.specs.Prelude.{◌≡◌, ◌++◌, ◌∷◌, [], ◌<◌, ◌≤◌, false, length, map, IfOk, Option, None, Some, vec_len};
 ghost use Rattle.std.specs.List.{filter_map};
 ghost use Rattle.seq_theory.specs.Problem.{IsWithin, is_end, weight_of as weight_sum, least_of, splitting};
@@ -10,15 +11,17 @@ ghost use Rattle.seq_theory.specs.Rows.{known_low as known_low_of, known_up as k
 ghost use Rattle.seq_inst.specs.Members.{members};
 ghost use Rattle.seq_inst.specs.Instances.{problem_of};
 ghost use Rattle.seq_huff.specs.Bounds.{greatest_cost};
+ghost use Rattle.seq_core.specs.Numbered.{AreNumbers};
 ghost use Rattle.seq_core.specs.RowsOf.{rows_of, place_in};
 ghost use Rattle.seq_core.specs.Tables.{IsTableOf};
 ghost use Rattle.seq_core.specs.Changes.{change_row, new_row, raised, capped};
 ghost use Rattle.seq_core.specs.Sums.{capped_value, lesser};
 ghost use Rattle.seq_core.specs.Allowed.{IsMostLow, IsLeastUp};
 
+use crate::numbers::Numbers;
 use crate::places::Places;
 use crate::worth::Worth;
-use seq_huff::{Scratch, bound};
+use seq_huff::Scratch;
 use seq_inst::{Answer, Group, Instance, Row, is_leaf, part, splits};
 use std::alloc::{AllocError, Global};
 use std::marker::Model;
@@ -109,7 +112,14 @@ impl Entered {
     }
 
     /// Enters the group. It takes no memory.
-    pub(crate) fn enter(&mut self, scratch: &mut Scratch, inst: &Instance, group: &Group)
+    pub(crate) fn enter(
+        &mut self,
+        scratch: &mut Scratch,
+        inst: &Instance,
+        numbers: &Numbers,
+        group: &Group,
+    )
+        requires numbers { AreNumbers (problem_of inst.now) numbers.now }
         requires of { IsTableOf (problem_of inst.now) self.old }
         requires absent { place_in (rows_of self.old.rows) (members group.now) ≡ None }
         requires room { length self.old.rows < self.old.room }
@@ -119,7 +129,7 @@ impl Entered {
         ensures room { self.new.room ≡ self.old.room }
         ensures rows { self.new.rows ≡ self.old.rows ++ new_row group.now ∷ [] }
     {
-        let kept = Worth::of(scratch, inst, group);
+        let kept = Worth::of(scratch, inst, numbers, group);
         let place = self.rows.len() as u32;
         self.index.add(group, place);
         let row = Row {
@@ -133,7 +143,14 @@ impl Entered {
 
     /// What a part counts for a low: 0 for one goal, the larger of its row's low and its bound, and the
     /// bound where it has no row.
-    pub(crate) fn known_low(&self, scratch: &mut Scratch, inst: &Instance, group: &Group) -> u64
+    pub(crate) fn known_low(
+        &self,
+        scratch: &mut Scratch,
+        inst: &Instance,
+        numbers: &Numbers,
+        group: &Group,
+    ) -> u64
+        requires numbers { AreNumbers (problem_of inst.now) numbers.now }
         requires of { IsTableOf (problem_of inst.now) self.now }
         requires within { IsWithin (problem_of inst.now) (members group.now) }
         ensures value { result ≡ known_low_of (problem_of inst.now) (rows_of self.now.rows) (members group.now) }
@@ -147,7 +164,7 @@ impl Entered {
                 let low = self.rows[place as usize].low;
                 low.max(self.kept[place as usize].bound)
             }
-            None => bound(scratch, inst, group),
+            None => numbers.bound_of(scratch, inst, group),
         }
     }
 
@@ -173,10 +190,12 @@ impl Entered {
         &self,
         scratch: &mut Scratch,
         inst: &Instance,
+        numbers: &Numbers,
         group: &Group,
         test: u32,
         weight: u64,
     ) -> u64
+        requires numbers { AreNumbers (problem_of inst.now) numbers.now }
         requires of { IsTableOf (problem_of inst.now) self.now }
         requires within { IsWithin (problem_of inst.now) (members group.now) }
         requires there { test < vec_len inst.now.costs }
@@ -184,9 +203,9 @@ impl Entered {
         ensures { result ≡ step_sum (problem_of inst.now) (known_low_of (problem_of inst.now) (rows_of self.now.rows)) (members group.now) test }
     {
         let pass_part = part(inst, group, test, Answer::Pass);
-        let pass = self.known_low(scratch, inst, &pass_part);
+        let pass = self.known_low(scratch, inst, numbers, &pass_part);
         let fail_part = part(inst, group, test, Answer::Fail);
-        let fail = self.known_low(scratch, inst, &fail_part);
+        let fail = self.known_low(scratch, inst, numbers, &fail_part);
         u64::from(inst.costs[test as usize]) * weight + (pass + fail)
     }
 
@@ -195,9 +214,11 @@ impl Entered {
         &self,
         scratch: &mut Scratch,
         inst: &Instance,
+        numbers: &Numbers,
         group: &Group,
         weight: u64,
     ) -> u64
+        requires numbers { AreNumbers (problem_of inst.now) numbers.now }
         requires of { IsTableOf (problem_of inst.now) self.now }
         requires within { IsWithin (problem_of inst.now) (members group.now) }
         requires weight { weight ≡ weight_sum (problem_of inst.now) (members group.now) }
@@ -207,7 +228,7 @@ impl Entered {
         let mut least = None;
         for test in 0..tests {
             if splits(inst, group, test) {
-                let sum = self.low_sum(scratch, inst, group, test, weight);
+                let sum = self.low_sum(scratch, inst, numbers, group, test, weight);
                 least = Some(lesser_of(least, sum));
             }
         }
@@ -215,14 +236,21 @@ impl Entered {
     }
 
     /// The most to which the row at the place may be raised.
-    pub(crate) fn most_low(&self, scratch: &mut Scratch, inst: &Instance, place: u32) -> u64
+    pub(crate) fn most_low(
+        &self,
+        scratch: &mut Scratch,
+        inst: &Instance,
+        numbers: &Numbers,
+        place: u32,
+    ) -> u64
+        requires numbers { AreNumbers (problem_of inst.now) numbers.now }
         requires of { IsTableOf (problem_of inst.now) self.now }
         requires there { place < length self.now.rows }
         ensures { IsMostLow (problem_of inst.now) self.now.rows place result }
     {
         let group = self.rows[place as usize].group;
         let kept = self.kept[place as usize];
-        let least = self.least_low_sum(scratch, inst, &group, kept.weight);
+        let least = self.least_low_sum(scratch, inst, numbers, &group, kept.weight);
         kept.bound.max(least)
     }
 

@@ -1,6 +1,7 @@
 //! The events of the core on worked rows, and the lows and values of its rows.
 ghost use Rattle.std.specs.Prelude.{◌≡◌, IfOk};
 ghost use Rattle.seq_inst.specs.Instances.{problem_of};
+ghost use Rattle.seq_core.specs.Numbered.{AreNumbers};
 ghost use Rattle.seq_core.specs.Examples.{two_faults as two_faults_problem, star as star_problem};
 
 use crate::{Core, Event, Illegal, Kept, Numbers, Places, Split, lows, settle, vals};
@@ -93,10 +94,16 @@ fn one_row_of_two_faults(rt: HostRuntime) -> Result<(), Fail> {
     let inst = two_faults(alloc)?;
     let all = root(&inst);
     let passing = part(&inst, &all, 0, Answer::Pass);
+    let numbers = Numbers::new(alloc, &inst)?;
     let mut core = Core::new(alloc, &inst, 1)?;
-    let entered = core.step(&mut scratch, &inst, Event::Enter { group: all });
+    let entered = core.step(&mut scratch, &inst, &numbers, Event::Enter { group: all });
     assert_eq!(rt; entered, Ok(()));
-    let above = core.step(&mut scratch, &inst, Event::Raise { place: 0, to: 28 });
+    let above = core.step(
+        &mut scratch,
+        &inst,
+        &numbers,
+        Event::Raise { place: 0, to: 28 },
+    );
     assert_eq!(rt;
         above,
         Err(Illegal::TooHigh {
@@ -104,9 +111,19 @@ fn one_row_of_two_faults(rt: HostRuntime) -> Result<(), Fail> {
             allowed: 27
         })
     );
-    let raised = core.step(&mut scratch, &inst, Event::Raise { place: 0, to: 27 });
+    let raised = core.step(
+        &mut scratch,
+        &inst,
+        &numbers,
+        Event::Raise { place: 0, to: 27 },
+    );
     assert_eq!(rt; raised, Ok(()));
-    let below = core.step(&mut scratch, &inst, Event::Cap { place: 0, to: 26 });
+    let below = core.step(
+        &mut scratch,
+        &inst,
+        &numbers,
+        Event::Cap { place: 0, to: 26 },
+    );
     assert_eq!(rt;
         below,
         Err(Illegal::TooLow {
@@ -114,17 +131,32 @@ fn one_row_of_two_faults(rt: HostRuntime) -> Result<(), Fail> {
             allowed: 27
         })
     );
-    let capped = core.step(&mut scratch, &inst, Event::Cap { place: 0, to: 27 });
+    let capped = core.step(
+        &mut scratch,
+        &inst,
+        &numbers,
+        Event::Cap { place: 0, to: 27 },
+    );
     assert_eq!(rt; capped, Ok(()));
-    let again = core.step(&mut scratch, &inst, Event::Enter { group: all });
+    let again = core.step(&mut scratch, &inst, &numbers, Event::Enter { group: all });
     assert_eq!(rt; again, Err(Illegal::Repeated { place: 0 }));
-    let second = core.step(&mut scratch, &inst, Event::Enter { group: passing });
+    let second = core.step(
+        &mut scratch,
+        &inst,
+        &numbers,
+        Event::Enter { group: passing },
+    );
     assert_eq!(rt; second, Err(Illegal::Limit { rows: 1 }));
-    let nowhere = core.step(&mut scratch, &inst, Event::Raise { place: 1, to: 0 });
+    let nowhere = core.step(
+        &mut scratch,
+        &inst,
+        &numbers,
+        Event::Raise { place: 1, to: 0 },
+    );
     assert_eq!(rt; nowhere, Err(Illegal::NoPlace { rows: 1 }));
-    let lows = lows(alloc, &mut scratch, &inst, core.rows())?;
+    let lows = lows(alloc, &mut scratch, &inst, &numbers, core.rows())?;
     assert_eq!(rt; lows.as_slice(), [27].as_slice());
-    let vals = vals(alloc, &mut scratch, &inst, core.rows())?;
+    let vals = vals(alloc, &mut scratch, &inst, &numbers, core.rows())?;
     assert_eq!(rt; vals.as_slice(), [27].as_slice());
     Ok(())
 }
@@ -136,16 +168,37 @@ fn two_rows_of_a_star(rt: HostRuntime) -> Result<(), Fail> {
     let inst = star(alloc)?;
     let all = root(&inst);
     let passing = part(&inst, &all, 0, Answer::Pass);
+    let numbers = Numbers::new(alloc, &inst)?;
     let mut core = Core::new(alloc, &inst, 2)?;
-    let first = core.step(&mut scratch, &inst, Event::Enter { group: all });
+    let first = core.step(&mut scratch, &inst, &numbers, Event::Enter { group: all });
     assert_eq!(rt; first, Ok(()));
-    let second = core.step(&mut scratch, &inst, Event::Enter { group: passing });
+    let second = core.step(
+        &mut scratch,
+        &inst,
+        &numbers,
+        Event::Enter { group: passing },
+    );
     assert_eq!(rt; second, Ok(()));
-    let raised = core.step(&mut scratch, &inst, Event::Raise { place: 1, to: 9 });
+    let raised = core.step(
+        &mut scratch,
+        &inst,
+        &numbers,
+        Event::Raise { place: 1, to: 9 },
+    );
     assert_eq!(rt; raised, Ok(()));
-    let capped = core.step(&mut scratch, &inst, Event::Cap { place: 1, to: 9 });
+    let capped = core.step(
+        &mut scratch,
+        &inst,
+        &numbers,
+        Event::Cap { place: 1, to: 9 },
+    );
     assert_eq!(rt; capped, Ok(()));
-    let above = core.step(&mut scratch, &inst, Event::Raise { place: 0, to: 14 });
+    let above = core.step(
+        &mut scratch,
+        &inst,
+        &numbers,
+        Event::Raise { place: 0, to: 14 },
+    );
     assert_eq!(rt;
         above,
         Err(Illegal::TooHigh {
@@ -153,15 +206,25 @@ fn two_rows_of_a_star(rt: HostRuntime) -> Result<(), Fail> {
             allowed: 13
         })
     );
-    let highest = core.step(&mut scratch, &inst, Event::Raise { place: 0, to: 13 });
+    let highest = core.step(
+        &mut scratch,
+        &inst,
+        &numbers,
+        Event::Raise { place: 0, to: 13 },
+    );
     assert_eq!(rt; highest, Ok(()));
-    let lowest = core.step(&mut scratch, &inst, Event::Cap { place: 0, to: 14 });
+    let lowest = core.step(
+        &mut scratch,
+        &inst,
+        &numbers,
+        Event::Cap { place: 0, to: 14 },
+    );
     assert_eq!(rt; lowest, Ok(()));
     let rows = core.rows();
     assert_eq!(rt; rows.len(), 2);
     assert_eq!(rt; (rows[0].group, rows[0].low, rows[0].up), (all, 13, 14));
     assert_eq!(rt; (rows[1].group, rows[1].low, rows[1].up), (passing, 9, 9));
-    let settled = settle(alloc, &mut scratch, &inst, rows)?;
+    let settled = settle(alloc, &mut scratch, &inst, &numbers, rows)?;
     assert_eq!(rt; settled.len(), 2);
     assert_eq!(rt; (settled[0].low, settled[0].up), (13, 14));
     assert_eq!(rt; (settled[1].low, settled[1].up), (9, 9));

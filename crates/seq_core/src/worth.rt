@@ -1,11 +1,14 @@
-//! What is kept of an entered group. Each number is worked out once, when the group is entered: greedy's
-//! cost and the bound take most of the time of a search, and a search asks for them again and again.
+//! What is kept of an entered group: its weight, its bound and greedy's cost stand beside its row from
+//! when it is entered, since raising and capping ask for them again and again. Bound and greedy's cost
+//! take most of the time of a search, so they are taken from the numbers, which have them as a rule.
 ghost use Rattle.seq_theory.specs.Problem.{IsWithin};
 ghost use Rattle.seq_inst.specs.Instances.{problem_of};
 ghost use Rattle.seq_inst.specs.Members.{members};
+ghost use Rattle.seq_core.specs.Numbered.{AreNumbers};
 ghost use Rattle.seq_core.specs.WorthOf.{IsWorthOf};
 
-use seq_huff::{Scratch, bound, greedy_cost};
+use crate::numbers::Numbers;
+use seq_huff::Scratch;
 use seq_inst::{Group, Instance, weight_of};
 
 /// A group's weight, its lower bound, and what greedy costs over it.
@@ -17,15 +20,16 @@ pub struct Worth {
 }
 
 impl Worth {
-    /// Works out what is kept of the group.
-    pub fn of(scratch: &mut Scratch, inst: &Instance, group: &Group) -> Worth
-        requires { IsWithin (problem_of inst.now) (members group.now) }
+    /// What is kept of the group: the numbers where they have it, or worked out.
+    pub fn of(scratch: &mut Scratch, inst: &Instance, numbers: &Numbers, group: &Group) -> Worth
+        requires numbers { AreNumbers (problem_of inst.now) numbers.now }
+        requires within { IsWithin (problem_of inst.now) (members group.now) }
         ensures { IsWorthOf (problem_of inst.now) (members group.now) result }
     {
         Worth {
             weight: weight_of(inst, group),
-            bound: bound(scratch, inst, group),
-            greedy: greedy_cost(scratch, inst, group),
+            bound: numbers.bound_of(scratch, inst, group),
+            greedy: numbers.known_greedy(scratch, inst, group),
         }
     }
 }

@@ -8,6 +8,7 @@ ghost use Rattle.seq_inst.specs.Instances.{problem_of};
 ghost use Rattle.seq_inst.specs.Members.{members};
 ghost use Rattle.seq_inst.specs.Trees.{tree_of};
 ghost use Rattle.seq_inst.specs.Shapes.{height, leaf_count, AsksSplitting};
+ghost use Rattle.seq_core.specs.Numbered.{AreNumbers};
 ghost use Rattle.seq_core.specs.RowsOf.{rows_of as rows_from};
 ghost use Rattle.seq_core.specs.Settled.{groups_in, settled_rows};
 ghost use Rattle.seq_finish.specs.Entered.{MayStop};
@@ -15,7 +16,7 @@ ghost use Rattle.seq_finish.specs.Outcomes.{AreEntered, IsRightOutcome};
 
 use crate::places::{bounds_of, index_of};
 use crate::strategy::strategy_of;
-use seq_core::settle;
+use seq_core::{Numbers, settle};
 use seq_huff::Scratch;
 use seq_inst::{Group, Instance, Outcome, Row, Verdict, root};
 use std::alloc::{AllocError, Global};
@@ -44,13 +45,17 @@ fn still_missed(verdict: Verdict, missed: Option<Group>) -> Option<Group>
 
 /// The outcome of a search that entered these rows' groups: of the rows it takes the groups alone. A
 /// group that was missed stands in the outcome only where the entered ones do not show the least cost.
+/// Bounds and greedy's costs that the search has worked out are taken from the numbers; others are
+/// worked out here.
 pub fn finish(
     alloc: Global,
     inst: &Instance,
+    numbers: &Numbers,
     limit: u32,
     rows: Vec<Row>,
     missed: Option<Group>,
 ) -> Result<Outcome, AllocError>
+    requires numbers { AreNumbers (problem_of inst.now) numbers.now }
     requires sound { IsSound (problem_of inst.now) limit (rows_from rows.items) }
     requires root { is_end (problem_of inst.now) (all_classes (problem_of inst.now)) ≡ false → is_entered (groups_in rows.items) (all_classes (problem_of inst.now)) ≡ true }
     requires stopped { MayStop (problem_of inst.now) limit (groups_in rows.items) missed }
@@ -64,10 +69,18 @@ pub fn finish(
     ensures short { IfOk result (λ o. height (tree_of o.strategy) ≤ 512) }
 {
     let mut scratch = Scratch::new();
-    let rows = settle(alloc, &mut scratch, inst, rows.as_slice())?;
+    let rows = settle(alloc, &mut scratch, inst, numbers, rows.as_slice())?;
     let places = index_of(alloc, rows.as_slice())?;
     let all = root(inst);
-    let strategy = strategy_of(alloc, &mut scratch, inst, rows.as_slice(), &places, &all)?;
+    let strategy = strategy_of(
+        alloc,
+        &mut scratch,
+        inst,
+        numbers,
+        rows.as_slice(),
+        &places,
+        &all,
+    )?;
     let bounds = bounds_of(inst, rows.as_slice(), &places, &all);
     let verdict = verdict_of(bounds.low, bounds.cost);
     Ok(Outcome {

@@ -1,6 +1,7 @@
 //! The strategy of the entered groups. Where greedy costs a group's value, greedy's whole tree is taken,
 //! even where another test reaches the value too; else the lowest test that reaches it is asked, and so
-//! on in both parts. No bound is computed anew: the values stand in the rows.
+//! on in both parts. No bound is computed anew: the values stand in the rows, and greedy's costs in the
+//! numbers where the search has asked for them.
 ghost use Rattle.std.specs.Prelude.{◌≡◌, ◌≢◌, ◌<◌, false, All, IfOk, IsSome, vec_len};
 ghost use Rattle.seq_theory.specs.Problem.{IsWithin, is_end, weight_of as weight_sum};
 ghost use Rattle.seq_theory.specs.Greedy.{greedy_cost as cost_of_greedy};
@@ -8,13 +9,14 @@ ghost use Rattle.seq_theory.specs.Graph.{val, is_value, step_value, value_test a
 ghost use Rattle.seq_inst.specs.Members.{members};
 ghost use Rattle.seq_inst.specs.Instances.{problem_of};
 ghost use Rattle.seq_inst.specs.Trees.{tree_of};
+ghost use Rattle.seq_core.specs.Numbered.{AreNumbers};
 ghost use Rattle.seq_core.specs.Tables.{numbered};
 ghost use Rattle.seq_core.specs.Settled.{groups_in};
 ghost use Rattle.seq_finish.specs.Outcomes.{IsSettled};
 
 use crate::places::value_of;
-use seq_core::Places;
-use seq_huff::{Scratch, greedy, greedy_cost};
+use seq_core::{Numbers, Places};
+use seq_huff::{Scratch, greedy};
 use seq_inst::{
     Answer, Group, Instance, Row, Strategy, ask_first, is_leaf, part, splits, weight_of,
 };
@@ -76,10 +78,12 @@ pub(crate) fn strategy_of(
     alloc: Global,
     scratch: &mut Scratch,
     inst: &Instance,
+    numbers: &Numbers,
     rows: &[Row],
     places: &Places,
     group: &Group,
 ) -> Result<Strategy, AllocError>
+    requires numbers { AreNumbers (problem_of inst.now) numbers.now }
     requires placed { places.now.placed ≡ numbered 0 rows.now }
     requires settled { All (IsSettled (problem_of inst.now) (groups_in rows.now)) rows.now }
     requires within { IsWithin (problem_of inst.now) (members group.now) }
@@ -93,13 +97,13 @@ pub(crate) fn strategy_of(
         Some(value) => value,
         None => unreachable!(),
     };
-    if greedy_cost(scratch, inst, group) == value {
+    if numbers.known_greedy(scratch, inst, group) == value {
         return greedy(alloc, scratch, inst, group);
     }
     let test = value_test(inst, rows, places, group, value);
     let pass_part = part(inst, group, test, Answer::Pass);
-    let pass = strategy_of(alloc, scratch, inst, rows, places, &pass_part)?;
+    let pass = strategy_of(alloc, scratch, inst, numbers, rows, places, &pass_part)?;
     let fail_part = part(inst, group, test, Answer::Fail);
-    let fail = strategy_of(alloc, scratch, inst, rows, places, &fail_part)?;
+    let fail = strategy_of(alloc, scratch, inst, numbers, rows, places, &fail_part)?;
     ask_first(alloc, test, pass, fail)
 }

@@ -65,7 +65,7 @@ fn two_faults_need_one_group(rt: HostRuntime) -> Result<(), Fail> {
     let found = solve_alone(alloc, &inst, 4096)?;
     assert_eq!(rt; found.rows.len(), 1);
     assert!(rt; found.missed.is_none());
-    let outcome = finish(alloc, &inst, 4096, found.rows, found.missed)?;
+    let outcome = finish(alloc, &inst, &found.numbers, 4096, found.rows, found.missed)?;
     assert_eq!(rt; outcome.verdict, Verdict::Optimal);
     assert_eq!(rt; outcome.cost, 27);
     assert_eq!(rt; cost_of(&inst, &outcome.strategy, &root(&inst)), 27);
@@ -77,7 +77,7 @@ fn a_star_within_four_groups(rt: HostRuntime) -> Result<(), Fail> {
     let alloc = rt.alloc();
     let inst = star(alloc)?;
     let found = solve_alone(alloc, &inst, 4)?;
-    let outcome = finish(alloc, &inst, 4, found.rows, found.missed)?;
+    let outcome = finish(alloc, &inst, &found.numbers, 4, found.rows, found.missed)?;
     assert_eq!(rt; outcome.verdict, Verdict::Bounded);
     assert_eq!(rt; outcome.cost, 14);
     assert_eq!(rt; outcome.low, 13);
@@ -96,7 +96,7 @@ fn a_star_within_five_groups(rt: HostRuntime) -> Result<(), Fail> {
     let inst = star(alloc)?;
     let found = solve_alone(alloc, &inst, 5)?;
     assert!(rt; found.missed.is_none());
-    let outcome = finish(alloc, &inst, 5, found.rows, found.missed)?;
+    let outcome = finish(alloc, &inst, &found.numbers, 5, found.rows, found.missed)?;
     assert_eq!(rt; outcome.verdict, Verdict::Optimal);
     assert_eq!(rt; outcome.cost, 14);
     assert_eq!(rt; outcome.low, 14);
@@ -109,7 +109,7 @@ fn two_halves_within_two_groups(rt: HostRuntime) -> Result<(), Fail> {
     let alloc = rt.alloc();
     let inst = two_halves(alloc)?;
     let found = solve_alone(alloc, &inst, 2)?;
-    let outcome = finish(alloc, &inst, 2, found.rows, found.missed)?;
+    let outcome = finish(alloc, &inst, &found.numbers, 2, found.rows, found.missed)?;
     assert_eq!(rt; outcome.verdict, Verdict::Bounded);
     assert_eq!(rt; outcome.cost, 26);
     assert_eq!(rt; outcome.low, 25);
@@ -126,7 +126,7 @@ fn one_class_needs_no_group(rt: HostRuntime) -> Result<(), Fail> {
     let inst = one_class(alloc)?;
     let found = solve_alone(alloc, &inst, 1)?;
     assert_eq!(rt; found.rows.len(), 0);
-    let outcome = finish(alloc, &inst, 1, found.rows, found.missed)?;
+    let outcome = finish(alloc, &inst, &found.numbers, 1, found.rows, found.missed)?;
     assert_eq!(rt; outcome.verdict, Verdict::Optimal);
     assert_eq!(rt; outcome.cost, 0);
     Ok(())

@@ -48,7 +48,14 @@ fn outcome_of(alloc: Global, inst: &Instance, groups: u32) -> Result<Outcome, Al
     ensures { IfOk result (IsRightOutcome (problem_of inst.now) groups) }
 {
     let found = solve_alone(alloc, inst, groups)?;
-    finish(alloc, inst, groups, found.rows, found.missed)
+    finish(
+        alloc,
+        inst,
+        &found.numbers,
+        groups,
+        found.rows,
+        found.missed,
+    )
 }
 
 /// The report of a strategy for the system of the matrix.

@@ -13,21 +13,21 @@ enter-requires-clause-absent c =
     let rows = c.args.rows.now in
     let k = c.loop-row.row-index in
     let lt : k < length rows = omega arith in
-    ap (λ l. place_in (rows_of l) (members (row_at rows k).group)) c.loop-row.invariant.rows ∙ absent-next rows k c.requires.distinct lt
+    ap (λ l. place_in (rows_of l) (members (row_at rows k).group)) c.loop-row.invariant.rows ∙ absent-next rows k c.requires.groups.distinct lt
 
 pub enter-requires-clause-within : goal.enter-requires-clause-within
 enter-requires-clause-within c =
     let lt : c.loop-row.row-index < length c.args.rows.now = omega arith in
-    c.requires.within _ (row-among c.args.rows.now c.loop-row.row-index lt)
+    c.requires.groups.within _ (row-among c.args.rows.now c.loop-row.row-index lt)
 
 pub enter-requires-clause-goals : goal.enter-requires-clause-goals
 enter-requires-clause-goals c =
     let lt : c.loop-row.row-index < length c.args.rows.now = omega arith in
-    c.requires.goals _ (row-among c.args.rows.now c.loop-row.row-index lt)
+    c.requires.groups.goals _ (row-among c.args.rows.now c.loop-row.row-index lt)
 
 pub returns : goal.returns
 returns c =
     let rows = c.args.rows.now in
     let e : c.loop-row.row-index ≡ length rows = omega arith in
-    settled-none (problem_of c.args.inst.now) rows c.loop-row.table c.requires c.loop-row.invariant.of
+    settled-none (problem_of c.args.inst.now) rows c.loop-row.table c.requires.groups c.loop-row.invariant.of
     (c.loop-row.invariant.rows ∙ ap (λ n. fresh (take n rows)) e ∙ ap fresh (take-length rows))

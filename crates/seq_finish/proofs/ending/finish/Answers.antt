@@ -12,8 +12,8 @@ use Rattle.seq_finish.specs.Outcomes.{IsSettled}
 use Rattle.seq_finish.proofs.OutcomeLaws.{rows-groups, settled-all, settled-entered, are-entered, root-valued, outcome-right, outcome-shape, outcome-proper}
 use Rattle.seq_finish.proofs.ending.finish.Goals as goal
 
-pub settle-requires : goal.settle-requires
-settle-requires c = subst (AreGroups (problem_of c.args.inst.now)) (sym c.as_slice.ensures.value) (rows-groups (problem_of c.args.inst.now) c.args.limit c.args.rows.items c.requires.sound)
+pub settle-requires-clause-groups : goal.settle-requires-clause-groups
+settle-requires-clause-groups c = subst (AreGroups (problem_of c.args.inst.now)) (sym c.as_slice.ensures.value) (rows-groups (problem_of c.args.inst.now) c.args.limit c.args.rows.items c.requires.sound)
 
 pub index_of-requires-clause-distinct : goal.index_of-requires-clause-distinct
 index_of-requires-clause-distinct c =

@@ -4,9 +4,11 @@ use Rattle.seq_theory.specs.Graph.{is_entered}
 use Rattle.seq_theory.specs.Problem.{all_classes, is_end}
 use Rattle.seq_inst.specs.Instances.{problem_of}
 use Rattle.seq_core.specs.Numbered.{AreNumbers}
+use Rattle.seq_theory.specs.Rows.{IsSound}
+use Rattle.seq_core.specs.RowsOf.{rows_of as rows_from}
 use Rattle.seq_core.specs.Settled.{groups_in}
-use Rattle.seq_solo.specs.Found.{IsSolved, HasEnded}
-use Rattle.seq_solo.proofs.FoundLaws.{root-real, nothing-solved, walking-begins, root-entered, solved, may-stop, closed-read, stopped-same}
+use Rattle.seq_solo.specs.Found.{BeginsWithAll, IsSolved, HasEnded}
+use Rattle.seq_solo.proofs.FoundLaws.{root-real, nothing-solved, walking-begins, root-entered, walking-sound, solved, may-stop, closed-read, stopped-same}
 use Rattle.seq_solo.proofs.alone.solve_alone.Goals as goal
 
 pub returns-then-is_leaf-clause-ended : goal.returns-then-is_leaf-clause-ended
@@ -27,6 +29,16 @@ returns-then-is_leaf-clause-numbers c = let p = problem_of c.args.inst.now in su
 
 pub enter-requires-clause-real : goal.enter-requires-clause-real
 enter-requires-clause-real c = root-real (problem_of c.args.inst.now) c.root-all.result c.root-all.ensures (sym c.is_leaf.ensures ∙ c.if-is_leaf.false)
+
+pub returns-clause-sound : goal.returns-clause-sound
+returns-clause-sound c =
+    let p = problem_of c.args.inst.now in
+    subst (λ l. IsSound p c.args.limit (rows_from l)) (sym c.found_by-2.ensures.rows) (walking-sound p c.args.limit c.turns.search.rows.items c.turns.invariant.walk)
+
+pub returns-clause-first : goal.returns-clause-first
+returns-clause-first c =
+    let p = problem_of c.args.inst.now in
+    subst (BeginsWithAll p) (sym c.found_by-2.ensures.rows) (walking-begins p c.args.limit c.turns.search.rows.items (sym (ap (is_end p) c.root-all.ensures) ∙ sym c.is_leaf.ensures ∙ c.if-is_leaf.false) c.turns.invariant.walk)
 
 pub returns-clause-root : goal.returns-clause-root
 returns-clause-root c = λ more.

@@ -16,7 +16,7 @@ use Rattle.seq_core.proofs.CoreLaws.{core-table, sound-after}
 use Rattle.seq_core.proofs.machine.Core.raise.Goals as goal
 
 pub most_low-allowed-requires-clause-of : goal.most_low-allowed-requires-clause-of
-most_low-allowed-requires-clause-of c = core-table c.args.inst.now c.self.inside.entered (subst (IsCoreOf (problem_of c.args.inst.now)) (sym c.self.view_is) c.requires)
+most_low-allowed-requires-clause-of c = core-table c.args.inst.now c.self.inside.entered (subst (IsCoreOf (problem_of c.args.inst.now)) (sym c.self.view_is) c.requires.of)
 
 pub returns-then-place-rows-clause-answer : goal.returns-then-place-rows-clause-answer
 returns-then-place-rows-clause-answer c =
@@ -34,7 +34,7 @@ returns-then-to-allowed-clause-answer c =
     let inst = c.args.inst.now in
     let p = problem_of inst in
     let t = c.self.inside.entered in
-    let of : IsCoreOf p t = subst (IsCoreOf p) (sym c.self.view_is) c.requires in
+    let of : IsCoreOf p t = subst (IsCoreOf p) (sym c.self.view_is) c.requires.of in
     let n = c.len-rows.ensures in
     let there : c.args.place < length t.rows = omega arith in
     let r = get_or t.rows c.args.place no_row in
@@ -50,7 +50,7 @@ returns-clause-answer c =
     let inst = c.args.inst.now in
     let p = problem_of inst in
     let t = c.self.inside.entered in
-    let of : IsCoreOf p t = subst (IsCoreOf p) (sym c.self.view_is) c.requires in
+    let of : IsCoreOf p t = subst (IsCoreOf p) (sym c.self.view_is) c.requires.of in
     let n = c.len-rows.ensures in
     let there : c.args.place < length t.rows = omega arith in
     let r = get_or t.rows c.args.place no_row in
@@ -65,7 +65,7 @@ returns-clause-of c =
     let inst = c.args.inst.now in
     let p = problem_of inst in
     let t = c.self.inside.entered in
-    let of : IsCoreOf p t = subst (IsCoreOf p) (sym c.self.view_is) c.requires in
+    let of : IsCoreOf p t = subst (IsCoreOf p) (sym c.self.view_is) c.requires.of in
     let n = c.len-rows.ensures in
     let there : c.args.place < length t.rows = omega arith in
     let r = get_or t.rows c.args.place no_row in

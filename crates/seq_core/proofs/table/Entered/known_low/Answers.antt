@@ -80,4 +80,4 @@ returns-in-None-clause-value c =
     let g = members c.args.group.now in
     let rows = c.self.inside.rows.items in
     let at = sym (find-place rows c.self.inside.index.placed g _ c.self.invariant.numbers c.find.ensures) ∙ c.in-None.is in
-    c.bound.ensures.value ∙ known_low-absent p rows g (sym c.is_leaf.ensures ∙ c.if-is_leaf.false) at ∙ ap (λ (t : Table). known_low p (rows_of t.rows) g) c.self.view_is
+    c.bound_of.ensures.value ∙ known_low-absent p rows g (sym c.is_leaf.ensures ∙ c.if-is_leaf.false) at ∙ ap (λ (t : Table). known_low p (rows_of t.rows) g) c.self.view_is
