@@ -31,7 +31,7 @@ use Rattle.seq_solo.proofs.CountLaws.{kept-read, count-at, countable, counted-is
 use Rattle.seq_solo.proofs.EventLaws.{IsRefreshed, entered-known, length-Narrows, group-Narrows, up-Narrows}
 use Rattle.seq_theory.proofs.RowLaws.{same_group-true, same_group-refl}
 use Rattle.seq_core.specs.declared.kept.Split.{Split}
-use Rattle.seq_solo.specs.Thinned.{counted_sum, IsCountable}
+use Rattle.seq_solo.specs.Thinned.{counted_sum, IsCountable, IsThinned}
 use Rattle.seq_solo.proofs.ThinLaws.{thinned-none, thinned-rises, thinned-more}
 use Rattle.seq_solo.proofs.SplitLaws.{split-at, tests-filter}
 use Rattle.std.proofs.lemmas.List.Elements.{All-filter}
@@ -283,6 +283,21 @@ module _ (inst : Instance) (v : Numbered) (rows : List Row) (kept : List Kept) (
       let at = split-at (problem_of inst) v rows (row_at rows place) k k.splits.items of-row refl i d h in
       countable inst v rows kept counts known place lt (get_or k.splits.items i d) k at.parts at.there read
 
+  -- the kept one gives way to another that is right too
+  replaced : (other : Kept) → IsKeptBy (problem_of inst) v rows (row_at rows place) other → AreKnown (problem_of inst) v rows (set kept place other) counts
+  replaced other here = record {
+    rows_are = known.rows_are;
+    numbers_are = known.numbers_are;
+    kept_are = record {
+      as_many = length-set kept place other ∙ known.kept_are.as_many;
+      each = λ q x e. elim (get-set kept place other q x e) [
+        | inl s ↦ subst (λ n. IsKeptBy (problem_of inst) v rows (row_at rows n) x) (sym s.0) (subst (IsKeptBy (problem_of inst) v rows (row_at rows place)) s.1 here)
+        | inr o ↦ known.kept_are.each q x o
+      ];
+    };
+    counts_are = known.counts_are;
+  }
+
   pub thinned-known : (thin : Kept) (up : ℕ) → up ≡ (row_at rows place).up → thin.number ≡ k.number → thin.weight ≡ k.weight → thin.bound ≡ k.bound → thin.greedy ≡ k.greedy
       → thin.splits.items ≡ filter (λ s. nat_le (counted_sum inst.costs.items k.weight counts s) up) k.splits.items → AreKnown (problem_of inst) v rows (set kept place thin) counts
   thinned-known thin up up_is en ew eb eg splits_are =
@@ -294,23 +309,27 @@ module _ (inst : Instance) (v : Numbered) (rows : List Row) (kept : List Kept) (
       let tests = ap (map (λ (s : Split). s.test)) splits_are ∙ tests-filter stays (λ t. nat_le (f t) up) k.splits.items (λ i d h.
       let at = split-at p v rows r k k.splits.items of-row refl i d h in
       ap (λ n. nat_le n up) (counted-is inst v rows kept counts known place lt (get_or k.splits.items i d) k at.parts read)) in
-      let here : IsKeptBy p v rows r thin = record {
+      replaced thin (record {
         number = subst (HasNumber v g) (sym en) of-row.number;
         weight = ew ∙ of-row.weight;
         bound_is = eb ∙ of-row.bound_is;
         greedy = eg ∙ of-row.greedy;
         tests = thinned-more f r.up (splitting p g) (map (λ (s : Split). s.test) k.splits.items) (map (λ (s : Split). s.test) thin.splits.items) of-row.tests (tests ∙ ap (λ n. filter (λ t. nat_le (f t) n) (map (λ (s : Split). s.test) k.splits.items)) up_is);
         parts = subst (All (HasParts p v g)) (sym splits_are) (All-filter stays (HasParts p v g) k.splits.items of-row.parts);
-      } in
-      record {
-        rows_are = known.rows_are;
-        numbers_are = known.numbers_are;
-        kept_are = record {
-          as_many = length-set kept place thin ∙ known.kept_are.as_many;
-          each = λ q x e. elim (get-set kept place thin q x e) [
-            | inl s ↦ subst (λ n. IsKeptBy p v rows (row_at rows n) x) (sym s.0) (subst (IsKeptBy p v rows r) s.1 here)
-            | inr o ↦ known.kept_are.each q x o
-          ];
-        };
-        counts_are = known.counts_are;
-      }
+      })
+
+  -- the same tests in a list of less room
+  pub fitted-known : (fit : Kept) → fit.number ≡ k.number → fit.weight ≡ k.weight → fit.bound ≡ k.bound → fit.greedy ≡ k.greedy → fit.splits.items ≡ k.splits.items → AreKnown (problem_of inst) v rows (set kept place fit) counts
+  fitted-known fit en ew eb eg splits_are =
+      let p = problem_of inst in
+      let r = row_at rows place in
+      let g = members r.group in
+      let f = step_sum p (known_low p (rows_from rows)) g in
+      replaced fit (record {
+        number = subst (HasNumber v g) (sym en) of-row.number;
+        weight = ew ∙ of-row.weight;
+        bound_is = eb ∙ of-row.bound_is;
+        greedy = eg ∙ of-row.greedy;
+        tests = subst (λ l. IsThinned f r.up (splitting p g) (map (λ (s : Split). s.test) l)) (sym splits_are) of-row.tests;
+        parts = subst (All (HasParts p v g)) (sym splits_are) of-row.parts;
+      })

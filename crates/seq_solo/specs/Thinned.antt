@@ -6,7 +6,7 @@ use Rattle.seq_core.specs.declared.kept.Split.{Split}
 use Rattle.seq_solo.specs.declared.search.Count.{Count}
 use Rattle.seq_solo.specs.Counts.{count_at}
 
--- in their order, all but some of which the sum is above the up
+-- these in their order, without some whose sums are above the up
 pub record IsThinned (sum : ℕ → ℕ) (up : ℕ) (all some : List ℕ) : Type 0 where
   pub stays : ℕ → Bool
   pub some_are : some ≡ filter stays all

@@ -1,5 +1,5 @@
 //! The test of least sum, and what the rows allow a group to be raised and capped to. All go through
-//! the tests that are kept of the group.
+//! the tests that are kept of the group, and give what going through all its tests would give.
 ghost use Rattle.std.specs.Prelude.{◌≡◌, ◌<◌, min, length};
 ghost use Rattle.seq_theory.specs.Problem.{splitting};
 ghost use Rattle.seq_theory.specs.Bound.{step_sum};
@@ -103,7 +103,8 @@ fn lesser_of(number: u64, value: Option<u64>) -> u64
     }
 }
 
-/// The least of a row's up, greedy's cost and the sums of ups.
+/// The least to which the row may be capped, or its up where that is less: a test that was left out has
+/// no lesser sum of ups.
 pub(crate) fn least_up(inst: &Instance, search: &Search, place: usize) -> u64
     requires known { IsKnown (problem_of inst.now) search.now }
     requires place { place < length search.now.rows.items }

@@ -114,6 +114,19 @@ fn add(
     Ok(())
 }
 
+/// Gives back the room of the tests that were left out. Most go at the first refresh, so that this pays
+/// when a group is entered, and not later.
+fn give_back(inst: &Instance, search: &mut Search, place: usize)
+    requires known { IsKnown (problem_of inst.now) search.old }
+    requires place { place < length search.old.rows.items }
+    ensures known { IsKnown (problem_of inst.now) search.new }
+    ensures rows { search.new.rows.items ≡ search.old.rows.items }
+{
+    let _ = inst;
+    let kept = &mut search.kept[place];
+    kept.splits.shrink_to_fit();
+}
+
 /// Enters a group, and raises and caps it.
 pub(crate) fn enter(
     alloc: Global,
@@ -132,5 +145,6 @@ pub(crate) fn enter(
     let place = search.rows.len();
     add(alloc, scratch, inst, search, group)?;
     refresh(inst, search, place);
+    give_back(inst, search, place);
     Ok(())
 }

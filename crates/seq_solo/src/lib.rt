@@ -5,6 +5,10 @@
 //! raises and caps the groups that it came through. So lows rise and ups fall until they meet in the
 //! group of all classes, or the limit of groups is met. Only wanted groups are entered, and the rows are
 //! sound throughout.
+//!
+//! Each group that is met has a number, and what it counts stands in a list by number, so a sum costs two
+//! look-ups. The tests that split a group are worked out once, when it is entered, and those whose sums
+//! pass its up are left out for good.
 #![tactic(auto)]
 
 mod alone;

@@ -17,7 +17,7 @@ pub(crate) fn sum_of(inst: &Instance, counts: &[Count], weight: u64, split: Spli
     u64::from(inst.costs[split.test as usize]) * weight + (pass + fail)
 }
 
-/// Leaves out the tests whose sums are above the up.
+/// Leaves out the tests whose sums are above the up. Those that stay are moved to the front, in order.
 pub(crate) fn leave_out(
     inst: &Instance,
     counts: &[Count],
