@@ -20,6 +20,8 @@ pub use running::{run, run_quiet};
 pub use status::Status;
 
 #[cfg(test)]
+mod limited;
+#[cfg(test)]
 mod tests;
 #[cfg(test)]
 mod texts;
