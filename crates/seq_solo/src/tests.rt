@@ -1,6 +1,6 @@
 //! Worked walks, and the outcomes that are made from them.
 
-use crate::solve_alone;
+use crate::{Found, solve_alone};
 use seq_finish::finish;
 use seq_inst::{Group, Instance, Verdict, cost_of, root};
 use std::alloc::{AllocError, Global};
@@ -62,10 +62,14 @@ fn one_class(alloc: Global) -> Result<Instance, AllocError> {
 fn two_faults_need_one_group(rt: HostRuntime) -> Result<(), Fail> {
     let alloc = rt.alloc();
     let inst = two_faults(alloc)?;
-    let found = solve_alone(alloc, &inst, 4096)?;
-    assert_eq!(rt; found.rows.len(), 1);
-    assert!(rt; found.missed.is_none());
-    let outcome = finish(alloc, &inst, &found.numbers, 4096, found.rows, found.missed)?;
+    let Found {
+        rows,
+        missed,
+        numbers,
+    } = solve_alone(alloc, &inst, 4096)?;
+    assert_eq!(rt; rows.len(), 1);
+    assert!(rt; missed.is_none());
+    let outcome = finish(alloc, &inst, &numbers, 4096, rows, missed)?;
     assert_eq!(rt; outcome.verdict, Verdict::Optimal);
     assert_eq!(rt; outcome.cost, 27);
     assert_eq!(rt; cost_of(&inst, &outcome.strategy, &root(&inst)), 27);
@@ -76,8 +80,12 @@ fn two_faults_need_one_group(rt: HostRuntime) -> Result<(), Fail> {
 fn a_star_within_four_groups(rt: HostRuntime) -> Result<(), Fail> {
     let alloc = rt.alloc();
     let inst = star(alloc)?;
-    let found = solve_alone(alloc, &inst, 4)?;
-    let outcome = finish(alloc, &inst, &found.numbers, 4, found.rows, found.missed)?;
+    let Found {
+        rows,
+        missed,
+        numbers,
+    } = solve_alone(alloc, &inst, 4)?;
+    let outcome = finish(alloc, &inst, &numbers, 4, rows, missed)?;
     assert_eq!(rt; outcome.verdict, Verdict::Bounded);
     assert_eq!(rt; outcome.cost, 14);
     assert_eq!(rt; outcome.low, 13);
@@ -94,9 +102,13 @@ fn a_star_within_four_groups(rt: HostRuntime) -> Result<(), Fail> {
 fn a_star_within_five_groups(rt: HostRuntime) -> Result<(), Fail> {
     let alloc = rt.alloc();
     let inst = star(alloc)?;
-    let found = solve_alone(alloc, &inst, 5)?;
-    assert!(rt; found.missed.is_none());
-    let outcome = finish(alloc, &inst, &found.numbers, 5, found.rows, found.missed)?;
+    let Found {
+        rows,
+        missed,
+        numbers,
+    } = solve_alone(alloc, &inst, 5)?;
+    assert!(rt; missed.is_none());
+    let outcome = finish(alloc, &inst, &numbers, 5, rows, missed)?;
     assert_eq!(rt; outcome.verdict, Verdict::Optimal);
     assert_eq!(rt; outcome.cost, 14);
     assert_eq!(rt; outcome.low, 14);
@@ -108,8 +120,12 @@ fn a_star_within_five_groups(rt: HostRuntime) -> Result<(), Fail> {
 fn two_halves_within_two_groups(rt: HostRuntime) -> Result<(), Fail> {
     let alloc = rt.alloc();
     let inst = two_halves(alloc)?;
-    let found = solve_alone(alloc, &inst, 2)?;
-    let outcome = finish(alloc, &inst, &found.numbers, 2, found.rows, found.missed)?;
+    let Found {
+        rows,
+        missed,
+        numbers,
+    } = solve_alone(alloc, &inst, 2)?;
+    let outcome = finish(alloc, &inst, &numbers, 2, rows, missed)?;
     assert_eq!(rt; outcome.verdict, Verdict::Bounded);
     assert_eq!(rt; outcome.cost, 26);
     assert_eq!(rt; outcome.low, 25);
@@ -124,9 +140,13 @@ fn two_halves_within_two_groups(rt: HostRuntime) -> Result<(), Fail> {
 fn one_class_needs_no_group(rt: HostRuntime) -> Result<(), Fail> {
     let alloc = rt.alloc();
     let inst = one_class(alloc)?;
-    let found = solve_alone(alloc, &inst, 1)?;
-    assert_eq!(rt; found.rows.len(), 0);
-    let outcome = finish(alloc, &inst, &found.numbers, 1, found.rows, found.missed)?;
+    let Found {
+        rows,
+        missed,
+        numbers,
+    } = solve_alone(alloc, &inst, 1)?;
+    assert_eq!(rt; rows.len(), 0);
+    let outcome = finish(alloc, &inst, &numbers, 1, rows, missed)?;
     assert_eq!(rt; outcome.verdict, Verdict::Optimal);
     assert_eq!(rt; outcome.cost, 0);
     Ok(())

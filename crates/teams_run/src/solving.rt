@@ -17,7 +17,7 @@ use seq_cert::report_of;
 use seq_finish::{finish, outcomes_hold};
 use seq_inst::{Instance, Outcome, Verdict};
 use seq_shown::{outcomes_print, reports_hold};
-use seq_solo::solve_alone;
+use seq_solo::{Found, solve_alone};
 use seq_theory::{classes_hold, has_least, passage_holds};
 use sig_matrix::Matrix;
 use std::alloc::{AllocError, Global};
