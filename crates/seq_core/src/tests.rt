@@ -39,6 +39,13 @@ fn star(alloc: Global) -> Result<Instance, AllocError>
     Ok(Instance::new(weights, costs, passes))
 }
 
+/// No numbers yet. That they are the instance's is one clause here, which each step below asks for.
+fn no_numbers(alloc: Global, inst: &Instance) -> Result<Numbers, AllocError>
+    ensures { IfOk result (AreNumbers (problem_of inst.now)) }
+{
+    Numbers::new(alloc, inst)
+}
+
 #[test]
 fn groups_are_found_at_their_places(rt: HostRuntime) -> Result<(), Fail> {
     let mut places = Places::new(rt.alloc(), 3)?;
@@ -64,7 +71,7 @@ fn what_is_kept_of_two_faults(rt: HostRuntime) -> Result<(), Fail> {
     let inst = two_faults(alloc)?;
     let all = root(&inst);
     let passing = part(&inst, &all, 0, Answer::Pass);
-    let mut numbers = Numbers::new(alloc, &inst)?;
+    let mut numbers = no_numbers(alloc, &inst)?;
     let kept = Kept::of(alloc, &mut scratch, &mut numbers, &inst, &all)?;
     assert_eq!(rt; (kept.number, kept.weight), (0, 10));
     assert_eq!(rt; (kept.bound, kept.greedy), (18, 27));
@@ -94,7 +101,7 @@ fn one_row_of_two_faults(rt: HostRuntime) -> Result<(), Fail> {
     let inst = two_faults(alloc)?;
     let all = root(&inst);
     let passing = part(&inst, &all, 0, Answer::Pass);
-    let numbers = Numbers::new(alloc, &inst)?;
+    let numbers = no_numbers(alloc, &inst)?;
     let mut core = Core::new(alloc, &inst, 1)?;
     let entered = core.step(&mut scratch, &inst, &numbers, Event::Enter { group: all });
     assert_eq!(rt; entered, Ok(()));
@@ -168,7 +175,7 @@ fn two_rows_of_a_star(rt: HostRuntime) -> Result<(), Fail> {
     let inst = star(alloc)?;
     let all = root(&inst);
     let passing = part(&inst, &all, 0, Answer::Pass);
-    let numbers = Numbers::new(alloc, &inst)?;
+    let numbers = no_numbers(alloc, &inst)?;
     let mut core = Core::new(alloc, &inst, 2)?;
     let first = core.step(&mut scratch, &inst, &numbers, Event::Enter { group: all });
     assert_eq!(rt; first, Ok(()));

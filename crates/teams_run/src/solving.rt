@@ -47,15 +47,12 @@ fn outcome_of(alloc: Global, inst: &Instance, groups: u32) -> Result<Outcome, Al
     requires { IsLimit groups }
     ensures { IfOk result (IsRightOutcome (problem_of inst.now) groups) }
 {
-    let found = solve_alone(alloc, inst, groups)?;
-    finish(
-        alloc,
-        inst,
-        &found.numbers,
-        groups,
-        found.rows,
-        found.missed,
-    )
+    let Found {
+        rows,
+        missed,
+        numbers,
+    } = solve_alone(alloc, inst, groups)?;
+    finish(alloc, inst, &numbers, groups, rows, missed)
 }
 
 /// The report of a strategy for the system of the matrix.
