@@ -1,7 +1,7 @@
 //! The strategy of the entered groups. Where greedy costs a group's value, greedy's whole tree is taken,
 //! even where another test reaches the value too; else the lowest test that reaches it is asked, and so
-//! on in both parts. No bound is computed anew: the values stand in the rows, and greedy's costs in the
-//! numbers where the search has asked for them.
+//! on in both parts. The values stand in the rows, and greedy's costs in the numbers where the search has
+//! asked for them. Greedy's tree itself is not kept, so it is chosen anew, bounds and all, where it is taken.
 ghost use Rattle.std.specs.Prelude.{◌≡◌, ◌≢◌, ◌<◌, false, All, IfOk, IsSome, vec_len};
 ghost use Rattle.seq_theory.specs.Problem.{IsWithin, is_end, weight_of as weight_sum};
 ghost use Rattle.seq_theory.specs.Greedy.{greedy_cost as cost_of_greedy};

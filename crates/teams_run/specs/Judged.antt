@@ -74,8 +74,8 @@ bad_word C09 = codes "C09"
 abbrev pub rejected_line : BadLine → List ℕ
 rejected_line bad = codes "rejected line " ++ (decimal bad.line ++ (codes " " ++ (bad_word bad.code ++ codes "\n")))
 
--- the certificate is accepted for the system, which has at most 512 ambiguity groups, and shows a right strategy and a low of
--- its cost
+-- the certificate is accepted for the system, which has at most 512 ambiguity groups, and shows a right strategy, its cost,
+-- and a low that no right strategy undercuts
 pub record IsAccepted (sys : System) (labels : Labels) (cert text : List ℕ) : Type 0 where
   pub few : length (firsts sys) ≤ 512
   pub problem : Problem
