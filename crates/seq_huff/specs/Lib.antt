@@ -3,3 +3,4 @@ pub mod Bounds
 pub mod Queues
 pub mod Orders
 pub mod Ranks
+pub mod Estimates

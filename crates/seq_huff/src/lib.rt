@@ -11,6 +11,7 @@
 #![tactic(auto)]
 
 mod choice;
+mod estimate;
 mod lower;
 mod merging;
 mod order;
@@ -24,6 +25,7 @@ mod tests;
 mod weights;
 
 pub use choice::{greedy, greedy_cost};
+pub use estimate::Estimate;
 pub use lower::bound;
 pub use order::Order;
 pub use ordered::ordered_bound;
