@@ -1,15 +1,22 @@
-//! What an engine keeps of a group. Each number is worked out once, when the group is first asked for:
-//! greedy's cost, the bounds of the parts and the splitting tests take most of the time of a search, and
-//! a search asks for them again and again. What is kept is what working it out afresh would give.
-ghost use Rattle.std.specs.Prelude.{◌≡◌, ◌<◌, All, IfOk, map, vec_len};
-ghost use Rattle.seq_theory.specs.Problem.{IsWithin, splitting};
+//! What an engine keeps of a group. Each number is worked out once, when it is first asked for: greedy's
+//! cost, the bounds of the parts and the splitting tests take most of the time of a search, and a search
+//! asks for them again and again. What is kept is what working it out afresh would give.
+//!
+//! The sum of a test takes the bounds of both of its parts, and a group has far more splitting tests than
+//! ever matter. So a test waits at first, with a number that is at most its sum and that costs no bound.
+//! It is evaluated where the least sum is not certain without it. A test that waits with more than
+//! greedy costs is not kept at all: no tree that is worth looking at begins with it.
+ghost use Rattle.std.specs.Prelude.{◌≡◌, ◌<◌, [], All, IfOk, OnOk, OnErr, vec_len};
+ghost use Rattle.seq_theory.specs.Problem.{IsIn, IsWithin, splitting};
+ghost use Rattle.seq_theory.specs.Bound.{bound as bound_by, step_sum};
 ghost use Rattle.seq_inst.specs.Instances.{problem_of};
 ghost use Rattle.seq_inst.specs.Members.{members};
-ghost use Rattle.seq_core.specs.Numbered.{AreNumbers, KeepsNumbers};
-ghost use Rattle.seq_core.specs.KeptOf.{HasParts, IsKeptOf};
+ghost use Rattle.seq_huff.specs.Orders.{IsOrderOf};
+ghost use Rattle.seq_core.specs.Numbered.{Numbered, AreNumbers, KeepsNumbers};
+ghost use Rattle.seq_core.specs.KeptOf.{HasParts, AreTestsOf, IsKeptOf, IsEvaluated, KeepsTests};
 
 use crate::numbers::Numbers;
-use seq_huff::Scratch;
+use seq_huff::{Estimate, Order, Scratch};
 use seq_inst::{Answer, Group, Instance, part, splits, weight_of};
 use std::alloc::{AllocError, Global};
 
@@ -21,8 +28,15 @@ pub struct Split {
     pub fail: u32,
 }
 
-/// A group's number, its weight, its lower bound, what greedy costs over it, and the tests that split
-/// it, the lowest first.
+/// A test that splits a group and was not evaluated yet, with a number that is at most its sum.
+#[derive(Clone, Copy, Debug, PartialEq, Eq)]
+pub struct Waiting {
+    pub test: u32,
+    pub least: u64,
+}
+
+/// A group's number, its weight, its lower bound, what greedy costs over it, and the tests that split it:
+/// those that were evaluated, in the order in which they were, and those that wait, in no order.
 #[derive(Drop)]
 pub struct Kept {
     pub number: u32,
@@ -30,6 +44,7 @@ pub struct Kept {
     pub bound: u64,
     pub greedy: u64,
     pub splits: Vec<Split>,
+    pub waiting: Vec<Waiting>,
 }
 
 /// The test with the numbers of the parts that it makes of the group.
@@ -55,35 +70,36 @@ fn split_by(
     Ok(Split { test, pass, fail })
 }
 
-/// The tests that split the group, the lowest first.
-fn splits_of(
+/// The tests that split the group, each with a number that is at most its sum, but for those of which
+/// this number is above the most.
+fn waiting_of(
     alloc: Global,
-    scratch: &mut Scratch,
-    numbers: &mut Numbers,
+    order: &Order,
     inst: &Instance,
     group: &Group,
-) -> Result<Vec<Split>, AllocError>
-    requires numbers { AreNumbers (problem_of inst.now) numbers.old }
+    most: u64,
+) -> Result<Vec<Waiting>, AllocError>
+    requires order { IsOrderOf (problem_of inst.now) order.now }
     requires within { IsWithin (problem_of inst.now) (members group.now) }
-    ensures numbers { AreNumbers (problem_of inst.now) numbers.new }
-    ensures keeps { KeepsNumbers numbers.old numbers.new }
-    ensures tests { IfOk result (λ v. map (λ s. s.test) v.items ≡ splitting (problem_of inst.now) (members group.now)) }
-    ensures parts { IfOk result (λ v. All (HasParts (problem_of inst.now) numbers.new (members group.now)) v.items) }
+    ensures { IfOk result (λ w. (v : Numbered) → AreTestsOf (problem_of inst.now) v (members group.now) (step_sum (problem_of inst.now) (bound_by (problem_of inst.now)) (members group.now)) most [] w.items) }
 {
+    let estimate = Estimate::of(order, inst, group);
     let tests = inst.costs.len() as u32;
-    let mut found = Vec::new(alloc);
+    let mut waiting = Vec::new(alloc);
     for test in 0..tests {
         if splits(inst, group, test) {
-            let split = split_by(scratch, numbers, inst, group, test)?;
-            found.push(split)?;
+            let least = estimate.least_sum(order, inst, group, test);
+            if least <= most {
+                waiting.push(Waiting { test, least })?;
+            }
         }
     }
-    Ok(found)
+    Ok(waiting)
 }
 
 impl Kept {
-    /// Works out what is kept of the group. The group and its parts get numbers where they have none, and
-    /// so the bounds that greedy goes by are there before it is asked.
+    /// What is kept of the group at first: no test is evaluated yet, and those that may cost no more than
+    /// greedy wait. The group gets a number where it has none, and so do the groups of greedy's tree.
     pub fn of(
         alloc: Global,
         scratch: &mut Scratch,
@@ -98,14 +114,52 @@ impl Kept {
         ensures kept { IfOk result (IsKeptOf (problem_of inst.now) numbers.new (members group.now)) }
     {
         let number = numbers.number_of(scratch, inst, group)?;
-        let splits = splits_of(alloc, scratch, numbers, inst, group)?;
         let greedy = numbers.greedy_of(scratch, inst, group)?;
+        let waiting = waiting_of(alloc, numbers.order(), inst, group, greedy)?;
         Ok(Kept {
             number,
             weight: weight_of(inst, group),
             bound: numbers.bound_at(number),
             greedy,
-            splits,
+            splits: Vec::new(alloc),
+            waiting,
         })
+    }
+
+    /// Evaluates the test that waits at this place of the list: its parts get numbers where they have
+    /// none, and it goes to the end of the evaluated ones. The last test that waits takes its place. The
+    /// group is the one of which this is kept. Where the memory is short nothing but the numbers changes.
+    pub fn evaluate(
+        &mut self,
+        scratch: &mut Scratch,
+        numbers: &mut Numbers,
+        inst: &Instance,
+        group: &Group,
+        at: usize,
+    ) -> Result<(), AllocError>
+        requires numbers { AreNumbers (problem_of inst.now) numbers.old }
+        requires within { IsWithin (problem_of inst.now) (members group.now) }
+        requires there { at < vec_len self.old.waiting }
+        requires splits { All (λ w. IsIn w.test (splitting (problem_of inst.now) (members group.now))) self.old.waiting.items }
+
+        ensures numbers { AreNumbers (problem_of inst.now) numbers.new }
+        ensures keeps { KeepsNumbers numbers.old numbers.new }
+
+        ensures evaluated { OnOk result (IsEvaluated (problem_of inst.now) numbers.new (members group.now) at self.old self.new) }
+        ensures tests { OnOk result (KeepsTests (problem_of inst.now) numbers.old numbers.new (members group.now) self.old self.new) }
+
+        ensures err_splits { OnErr result (self.new.splits.items ≡ self.old.splits.items) }
+        ensures err_waiting { OnErr result (self.new.waiting ≡ self.old.waiting) }
+
+        ensures number { self.new.number ≡ self.old.number }
+        ensures weight { self.new.weight ≡ self.old.weight }
+        ensures bound { self.new.bound ≡ self.old.bound }
+        ensures greedy { self.new.greedy ≡ self.old.greedy }
+    {
+        let test = self.waiting[at].test;
+        let split = split_by(scratch, numbers, inst, group, test)?;
+        self.splits.push(split)?;
+        self.waiting.swap_remove(at);
+        Ok(())
     }
 }

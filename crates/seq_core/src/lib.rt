@@ -24,7 +24,7 @@ mod words;
 mod worth;
 
 pub use event::{Event, Illegal};
-pub use kept::{Kept, Split};
+pub use kept::{Kept, Split, Waiting};
 pub use laws::{changes_keep, entering_helps, sound_rows_settle};
 pub use machine::Core;
 pub use numbers::Numbers;

@@ -61,6 +61,13 @@ impl Numbers {
         })
     }
 
+    /// The order by which bounds are worked out.
+    pub(crate) fn order(&self) -> &Order
+        ensures { result.now ≡ self.now.order }
+    {
+        &self.order
+    }
+
     /// How many groups have numbers.
     pub fn len(&self) -> u32
         ensures { result ≡ length self.now.groups }

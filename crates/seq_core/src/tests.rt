@@ -72,21 +72,19 @@ fn what_is_kept_of_two_faults(rt: HostRuntime) -> Result<(), Fail> {
     let all = root(&inst);
     let passing = part(&inst, &all, 0, Answer::Pass);
     let mut numbers = no_numbers(alloc, &inst)?;
-    let kept = Kept::of(alloc, &mut scratch, &mut numbers, &inst, &all)?;
+    let mut kept = Kept::of(alloc, &mut scratch, &mut numbers, &inst, &all)?;
     assert_eq!(rt; (kept.number, kept.weight), (0, 10));
     assert_eq!(rt; (kept.bound, kept.greedy), (18, 27));
+    assert_eq!(rt; kept.splits.len(), 0);
+    assert!(rt; !kept.waiting.is_empty());
+    kept.evaluate(&mut scratch, &mut numbers, &inst, &all, 0)?;
     let first = Split {
         test: 0,
         pass: 1,
         fail: 2,
     };
-    let second = Split {
-        test: 1,
-        pass: 3,
-        fail: 4,
-    };
-    assert_eq!(rt; kept.splits.as_slice(), [first, second].as_slice());
-    assert_eq!(rt; numbers.len(), 5);
+    assert_eq!(rt; kept.splits.as_slice(), [first].as_slice());
+    assert_eq!(rt; numbers.len(), 3);
     assert!(rt; numbers.group_at(1) == passing);
     assert_eq!(rt; numbers.bound_at(1), 7);
     Ok(())

@@ -1,0 +1,32 @@
+use Rattle.std.proofs.Common.{◌≡◌, ◌∙◌, sym, ap, arith}
+use Rattle.seq_theory.specs.Bound.{bound, step_sum}
+use Rattle.seq_inst.specs.Members.{members}
+use Rattle.seq_inst.specs.Instances.{problem_of}
+use Rattle.seq_core.proofs.KeptLaws.{waiting-more, waiting-above, waiting-same, waiting-all}
+use Rattle.seq_core.proofs.kept.waiting_of.Goals as goal
+use Rattle.seq_core.proofs.kept.waiting_of.Goals.{then-splits+then-least-most+in_ok-push, then-splits+else-least-most, else-splits}
+
+pub loop-test-preserved : goal.loop-test-preserved
+loop-test-preserved c =
+    let p = problem_of c.args.inst.now in
+    let g = members c.args.group.now in
+    let sum = step_sum p (bound p) g in
+    let found = c.loop-test.waiting.items in
+    let i = c.loop-test.invariant in
+    elim c.if-splits.branch [
+      | then-splits+then-least-most+in_ok-push w ↦
+          waiting-more p g sum c.args.most c.loop-test.test found c.if-splits.waiting.items (record { test = c.loop-test.test; least = w.least_sum-least.result }) i
+          (sym c.splits.ensures ∙ w.if-splits.true) (omega arith) w.least_sum-least.ensures (ap (λ v. v.items) w.waiting-is ∙ w.in_ok-push.ensures.items)
+      | then-splits+else-least-most w ↦
+          waiting-above p g sum c.args.most c.loop-test.test w.least_sum-least.result found c.if-splits.waiting.items i w.least_sum-least.ensures (omega arith) (ap (λ v. v.items) w.waiting-is)
+      | else-splits w ↦
+          waiting-same p g sum c.args.most c.loop-test.test found c.if-splits.waiting.items i (sym c.splits.ensures ∙ w.if-splits.false) (ap (λ v. v.items) w.waiting-is)
+    ]
+
+pub returns : goal.returns
+returns c v =
+    let p = problem_of c.args.inst.now in
+    let g = members c.args.group.now in
+    let n = c.len-tests.ensures ∙ c.args.inst.now.costs.ok.0 in
+    let e : c.loop-test.test ≡ p.tests = omega arith in
+    waiting-all p g (step_sum p (bound p) g) c.args.most v c.loop-test.test c.loop-test.waiting.items c.loop-test.invariant e
