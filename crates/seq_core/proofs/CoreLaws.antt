@@ -19,8 +19,9 @@ use Rattle.seq_core.specs.declared.event.Event.TheVariants.{Enter, Raise, Cap}
 use Rattle.seq_core.specs.declared.event.Illegal.{Illegal}
 use Rattle.seq_core.specs.declared.event.Illegal.TheVariants.{Limit, TooHigh, TooLow}
 use Rattle.seq_core.specs.RowsOf.{row_of, rows_of, place_in, AreFit}
+use Rattle.seq_core.specs.Numbered.{Numbered}
 use Rattle.seq_core.specs.Tables.{Table, IsTableOf}
-use Rattle.seq_core.specs.Events.{event_of, EntersReal, rows_after, enter_refusal, raise_refusal, cap_refusal, refusal, answer, IsCoreOf}
+use Rattle.seq_core.specs.Events.{event_of, EntersReal, rows_after, enter_refusal, raise_refusal, cap_refusal, refusal, answer, CoreState, IsCoreOf}
 use Rattle.seq_core.proofs.TableLaws.{rows_of-more, place-found, place-absent, found-entered}
 use Rattle.seq_core.proofs.ChangeLaws.{raised-rows, capped-rows}
 
@@ -46,8 +47,12 @@ sound-fit inst limit rows s x i =
     let d = greedy-small inst (c.0).group wc in
     record { within = within; goals = real.goals; small = omega arith }
 
-pub core-table : (inst : Instance) (t : Table) → IsCoreOf (problem_of inst) t → IsTableOf (problem_of inst) t
-core-table inst t c = record { kept = c.kept; fit = sound-fit inst t.room t.rows c.sound }
+-- the core of a table and numbers
+abbrev pub core_from : Table → Numbered → CoreState
+core_from t v = record { room = t.room; rows = t.rows; kept = t.kept; numbers = v }
+
+pub core-table : (inst : Instance) (t : Table) (v : Numbered) → IsCoreOf (problem_of inst) (core_from t v) → IsTableOf (problem_of inst) t
+core-table inst t v c = record { kept = c.kept; fit = sound-fit inst t.room t.rows c.sound }
 
 pub sound-none : (p : Problem) (limit : ℕ) → IsSound p limit (rows_of [])
 sound-none p limit = none-sound p limit

@@ -11,7 +11,9 @@ use Rattle.seq_core.specs.declared.event.Illegal.{Illegal}
 use Rattle.seq_core.specs.declared.event.Illegal.TheVariants.{Repeated, Limit, NoPlace, TooHigh, TooLow}
 use Rattle.seq_core.specs.RowsOf.{rows_of, place_in}
 use Rattle.seq_core.specs.Changes.{change_row, new_row, raised, capped}
-use Rattle.seq_core.specs.Tables.{Table, AreWorthsOf}
+use Rattle.seq_core.specs.declared.worth.Worth.{Worth}
+use Rattle.seq_core.specs.Numbered.{Numbered, AreNumbers}
+use Rattle.seq_core.specs.Tables.{AreWorthsOf}
 
 abbrev pub event_of : Event → TheoryEvent
 event_of (Enter group) = enter (members group)
@@ -55,7 +57,16 @@ abbrev pub answer : Option Illegal → Result (Unit {0}) Illegal
 answer None = Ok tt
 answer (Some illegal) = Err illegal
 
--- the core is of this problem: its rows are sound, and what it keeps of their groups was worked out in it
-pub record IsCoreOf (p : Problem) (t : Table) : Type 0 where
-  pub kept : AreWorthsOf p t.rows t.kept
-  pub sound : IsSound p t.room (rows_of t.rows)
+-- the core: so many rows it may have, those that it has in the order of entering, what it keeps of each of their groups,
+-- and the numbers by which it works out bounds
+pub record CoreState : Type 0 where
+  pub room : ℕ
+  pub rows : List Row
+  pub kept : List Worth
+  pub numbers : Numbered
+
+-- the core is of this problem: its rows are sound, what it keeps of their groups was worked out in it, and the numbers are its
+pub record IsCoreOf (p : Problem) (c : CoreState) : Type 0 where
+  pub kept : AreWorthsOf p c.rows c.kept
+  pub sound : IsSound p c.room (rows_of c.rows)
+  pub numbers : AreNumbers p c.numbers

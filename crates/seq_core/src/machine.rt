@@ -1,12 +1,12 @@
 //! The core of the search as a machine: its state is the list of rows, and an event is accepted exactly
 //! where the rows allow it. So each row's low is at most the least cost of its group and its up at least
-//! that, whatever is played. A step takes no memory.
+//! that, whatever is played. A step takes no memory: the core holds numbers of its own, which stay as they
+//! were made, so that it works out bounds by their order and keeps none but those of the entered groups.
 ghost use Rattle.std.specs.Prelude.{◌≡◌, ◌<◌, ◌≤◌, [], IfOk, OnOk, OnErr, IsOk, slice_get};
 ghost use Rattle.seq_theory.specs.Graph.{IsReal};
 ghost use Rattle.seq_theory.specs.Rows.{IsAllowed};
 ghost use Rattle.seq_inst.specs.Members.{members};
 ghost use Rattle.seq_inst.specs.Instances.{problem_of};
-ghost use Rattle.seq_core.specs.Numbered.{AreNumbers};
 ghost use Rattle.seq_core.specs.RowsOf.{rows_of, place_in};
 ghost use Rattle.seq_core.specs.Events.{event_of, EntersReal, rows_after, enter_refusal, raise_refusal, cap_refusal, refusal, answer, IsCoreOf};
 
@@ -22,14 +22,16 @@ use std::marker::Model;
 #[derive(Drop)]
 pub struct Core {
     entered: Entered,
+    /// Numbers of no group, for the order by which they work out bounds.
+    numbers: Numbers,
 }
 
 impl Model for Core {
-    ghost use Rattle.seq_core.specs.Tables.{Table};
+    ghost use Rattle.seq_core.specs.Events.{CoreState};
 
-    ghost Value = { Table };
+    ghost Value = { CoreState };
 
-    ghost view = { λ c. c.entered };
+    ghost view = { λ c. record { room = c.entered.room; rows = c.entered.rows; kept = c.entered.kept; numbers = c.numbers } };
 }
 
 impl Core {
@@ -37,12 +39,13 @@ impl Core {
     pub fn new(alloc: Global, inst: &Instance, limit: u32) -> Result<Core, AllocError>
         requires some { 1 ≤ limit }
         requires few { limit ≤ 32768 }
-        ensures empty { IfOk result (λ c. c ≡ record { room = limit; rows = []; kept = [] }) }
+        ensures empty { IfOk result (λ c. c.rows ≡ []) }
+        ensures limit { IfOk result (λ c. c.room ≡ limit) }
         ensures of { IfOk result (λ c. IsCoreOf (problem_of inst.now) c) }
     {
-        let _ = inst;
         let entered = Entered::new(alloc, limit)?;
-        Ok(Core { entered })
+        let numbers = Numbers::new(alloc, inst)?;
+        Ok(Core { entered, numbers })
     }
 
     /// The rows.
@@ -53,16 +56,14 @@ impl Core {
     }
 
     /// Plays the event where the rows allow it; a refusal changes nothing. The instance is that of `new`.
-    /// Entering asks the numbers for the group's bound and greedy's cost, and raising for two bounds for
-    /// each splitting test at most; what the numbers don't have is worked out.
+    /// Entering works out the group's bound and greedy's cost, and raising at most two bounds for each
+    /// splitting test.
     pub fn step(
         &mut self,
         scratch: &mut Scratch,
         inst: &Instance,
-        numbers: &Numbers,
         event: Event,
     ) -> Result<(), Illegal>
-        requires numbers { AreNumbers (problem_of inst.now) numbers.now }
         requires of { IsCoreOf (problem_of inst.now) self.old }
         requires real { EntersReal (problem_of inst.now) event }
         ensures of { IsCoreOf (problem_of inst.now) self.new }
@@ -77,8 +78,8 @@ impl Core {
         ensures err { OnErr result (self.new ≡ self.old) }
     {
         match event {
-            Event::Enter { group } => self.enter(scratch, inst, numbers, &group),
-            Event::Raise { place, to } => self.raise(scratch, inst, numbers, place, to),
+            Event::Enter { group } => self.enter(scratch, inst, &group),
+            Event::Raise { place, to } => self.raise(scratch, inst, place, to),
             Event::Cap { place, to } => self.cap(inst, place, to),
         }
     }
@@ -88,10 +89,8 @@ impl Core {
         &mut self,
         scratch: &mut Scratch,
         inst: &Instance,
-        numbers: &Numbers,
         group: &Group,
     ) -> Result<(), Illegal>
-        requires numbers { AreNumbers (problem_of inst.now) numbers.now }
         requires of { IsCoreOf (problem_of inst.now) self.old }
         requires real { IsReal (problem_of inst.now) (members group.now) }
         ensures of { IsCoreOf (problem_of inst.now) self.new }
@@ -107,7 +106,7 @@ impl Core {
         if rows >= self.entered.room() {
             return Err(Illegal::Limit { rows });
         }
-        self.entered.enter(scratch, inst, numbers, group);
+        self.entered.enter(scratch, inst, &self.numbers, group);
         Ok(())
     }
 
@@ -116,11 +115,9 @@ impl Core {
         &mut self,
         scratch: &mut Scratch,
         inst: &Instance,
-        numbers: &Numbers,
         place: u32,
         to: u64,
     ) -> Result<(), Illegal>
-        requires numbers { AreNumbers (problem_of inst.now) numbers.now }
         requires of { IsCoreOf (problem_of inst.now) self.old }
         ensures of { IsCoreOf (problem_of inst.now) self.new }
         ensures limit { self.new.room ≡ self.old.room }
@@ -132,7 +129,7 @@ impl Core {
         if place >= rows {
             return Err(Illegal::NoPlace { rows });
         }
-        let allowed = self.entered.most_low(scratch, inst, numbers, place);
+        let allowed = self.entered.most_low(scratch, inst, &self.numbers, place);
         if to > allowed {
             return Err(Illegal::TooHigh { asked: to, allowed });
         }

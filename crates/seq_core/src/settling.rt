@@ -1,8 +1,9 @@
 //! The best bounds that a set of entered groups gives. The rows are gone through by size: a group's parts
 //! have fewer classes than it has, so when its turn comes their bounds are final, and each group is
 //! looked at once. Raising a row to the most that the others allow then gives its low, and capping it to
-//! the least gives its value. Bounds and greedy's costs are taken from the numbers that a search hands
-//! in, and are worked out where these don't have them: the result is the same for any numbers.
+//! the least gives its value. `settle` takes bounds and greedy's costs from the numbers that a search
+//! hands in, and works out those that these don't have: the result is the same for any numbers. `lows` and
+//! `vals` stand alone, and work out all.
 ghost use Rattle.std.specs.Prelude.{◌≡◌, ◌+◌, ◌<◌, ◌≤◌, List, map, length, take, IfOk};
 ghost use Rattle.seq_theory.specs.Graph.{low, val};
 ghost use Rattle.seq_inst.specs.Members.{members};
@@ -112,7 +113,8 @@ fn settled_table(
     Ok(table)
 }
 
-/// The rows' groups, each with the low and the value that they give it together.
+/// The rows' groups, each with the low and the value that they give it together. The numbers are those of
+/// a search that entered them, or any others of the instance.
 pub fn settle(
     alloc: Global,
     scratch: &mut Scratch,
@@ -154,14 +156,13 @@ pub fn lows(
     alloc: Global,
     scratch: &mut Scratch,
     inst: &Instance,
-    numbers: &Numbers,
     rows: &[Row],
 ) -> Result<Vec<u64>, AllocError>
-    requires numbers { AreNumbers (problem_of inst.now) numbers.now }
     requires groups { AreGroups (problem_of inst.now) rows.now }
     ensures { IfOk result (λ v. v.items ≡ map (low (problem_of inst.now) (groups_in rows.now)) (groups_in rows.now)) }
 {
-    let table = settled_table(alloc, scratch, inst, numbers, rows)?;
+    let numbers = Numbers::new(alloc, inst)?;
+    let table = settled_table(alloc, scratch, inst, &numbers, rows)?;
     let lows = lows_in(alloc, table.rows())?;
     Ok(lows)
 }
@@ -171,14 +172,13 @@ pub fn vals(
     alloc: Global,
     scratch: &mut Scratch,
     inst: &Instance,
-    numbers: &Numbers,
     rows: &[Row],
 ) -> Result<Vec<u64>, AllocError>
-    requires numbers { AreNumbers (problem_of inst.now) numbers.now }
     requires groups { AreGroups (problem_of inst.now) rows.now }
     ensures { IfOk result (λ v. v.items ≡ map (λ g. value_or (val (problem_of inst.now) (groups_in rows.now) g)) (groups_in rows.now)) }
 {
-    let table = settled_table(alloc, scratch, inst, numbers, rows)?;
+    let numbers = Numbers::new(alloc, inst)?;
+    let table = settled_table(alloc, scratch, inst, &numbers, rows)?;
     let ups = ups_in(alloc, table.rows())?;
     Ok(ups)
 }

@@ -39,7 +39,7 @@ fn star(alloc: Global) -> Result<Instance, AllocError>
     Ok(Instance::new(weights, costs, passes))
 }
 
-/// No numbers yet. That they are the instance's is one clause here, which each step below asks for.
+/// No numbers yet. That they are the instance's is one clause here.
 fn no_numbers(alloc: Global, inst: &Instance) -> Result<Numbers, AllocError>
     ensures { IfOk result (AreNumbers (problem_of inst.now)) }
 {
@@ -97,16 +97,10 @@ fn one_row_of_two_faults(rt: HostRuntime) -> Result<(), Fail> {
     let inst = two_faults(alloc)?;
     let all = root(&inst);
     let passing = part(&inst, &all, 0, Answer::Pass);
-    let numbers = no_numbers(alloc, &inst)?;
     let mut core = Core::new(alloc, &inst, 1)?;
-    let entered = core.step(&mut scratch, &inst, &numbers, Event::Enter { group: all });
+    let entered = core.step(&mut scratch, &inst, Event::Enter { group: all });
     assert_eq!(rt; entered, Ok(()));
-    let above = core.step(
-        &mut scratch,
-        &inst,
-        &numbers,
-        Event::Raise { place: 0, to: 28 },
-    );
+    let above = core.step(&mut scratch, &inst, Event::Raise { place: 0, to: 28 });
     assert_eq!(rt;
         above,
         Err(Illegal::TooHigh {
@@ -114,19 +108,9 @@ fn one_row_of_two_faults(rt: HostRuntime) -> Result<(), Fail> {
             allowed: 27
         })
     );
-    let raised = core.step(
-        &mut scratch,
-        &inst,
-        &numbers,
-        Event::Raise { place: 0, to: 27 },
-    );
+    let raised = core.step(&mut scratch, &inst, Event::Raise { place: 0, to: 27 });
     assert_eq!(rt; raised, Ok(()));
-    let below = core.step(
-        &mut scratch,
-        &inst,
-        &numbers,
-        Event::Cap { place: 0, to: 26 },
-    );
+    let below = core.step(&mut scratch, &inst, Event::Cap { place: 0, to: 26 });
     assert_eq!(rt;
         below,
         Err(Illegal::TooLow {
@@ -134,32 +118,17 @@ fn one_row_of_two_faults(rt: HostRuntime) -> Result<(), Fail> {
             allowed: 27
         })
     );
-    let capped = core.step(
-        &mut scratch,
-        &inst,
-        &numbers,
-        Event::Cap { place: 0, to: 27 },
-    );
+    let capped = core.step(&mut scratch, &inst, Event::Cap { place: 0, to: 27 });
     assert_eq!(rt; capped, Ok(()));
-    let again = core.step(&mut scratch, &inst, &numbers, Event::Enter { group: all });
+    let again = core.step(&mut scratch, &inst, Event::Enter { group: all });
     assert_eq!(rt; again, Err(Illegal::Repeated { place: 0 }));
-    let second = core.step(
-        &mut scratch,
-        &inst,
-        &numbers,
-        Event::Enter { group: passing },
-    );
+    let second = core.step(&mut scratch, &inst, Event::Enter { group: passing });
     assert_eq!(rt; second, Err(Illegal::Limit { rows: 1 }));
-    let nowhere = core.step(
-        &mut scratch,
-        &inst,
-        &numbers,
-        Event::Raise { place: 1, to: 0 },
-    );
+    let nowhere = core.step(&mut scratch, &inst, Event::Raise { place: 1, to: 0 });
     assert_eq!(rt; nowhere, Err(Illegal::NoPlace { rows: 1 }));
-    let lows = lows(alloc, &mut scratch, &inst, &numbers, core.rows())?;
+    let lows = lows(alloc, &mut scratch, &inst, core.rows())?;
     assert_eq!(rt; lows.as_slice(), [27].as_slice());
-    let vals = vals(alloc, &mut scratch, &inst, &numbers, core.rows())?;
+    let vals = vals(alloc, &mut scratch, &inst, core.rows())?;
     assert_eq!(rt; vals.as_slice(), [27].as_slice());
     Ok(())
 }
@@ -173,35 +142,15 @@ fn two_rows_of_a_star(rt: HostRuntime) -> Result<(), Fail> {
     let passing = part(&inst, &all, 0, Answer::Pass);
     let numbers = no_numbers(alloc, &inst)?;
     let mut core = Core::new(alloc, &inst, 2)?;
-    let first = core.step(&mut scratch, &inst, &numbers, Event::Enter { group: all });
+    let first = core.step(&mut scratch, &inst, Event::Enter { group: all });
     assert_eq!(rt; first, Ok(()));
-    let second = core.step(
-        &mut scratch,
-        &inst,
-        &numbers,
-        Event::Enter { group: passing },
-    );
+    let second = core.step(&mut scratch, &inst, Event::Enter { group: passing });
     assert_eq!(rt; second, Ok(()));
-    let raised = core.step(
-        &mut scratch,
-        &inst,
-        &numbers,
-        Event::Raise { place: 1, to: 9 },
-    );
+    let raised = core.step(&mut scratch, &inst, Event::Raise { place: 1, to: 9 });
     assert_eq!(rt; raised, Ok(()));
-    let capped = core.step(
-        &mut scratch,
-        &inst,
-        &numbers,
-        Event::Cap { place: 1, to: 9 },
-    );
+    let capped = core.step(&mut scratch, &inst, Event::Cap { place: 1, to: 9 });
     assert_eq!(rt; capped, Ok(()));
-    let above = core.step(
-        &mut scratch,
-        &inst,
-        &numbers,
-        Event::Raise { place: 0, to: 14 },
-    );
+    let above = core.step(&mut scratch, &inst, Event::Raise { place: 0, to: 14 });
     assert_eq!(rt;
         above,
         Err(Illegal::TooHigh {
@@ -209,19 +158,9 @@ fn two_rows_of_a_star(rt: HostRuntime) -> Result<(), Fail> {
             allowed: 13
         })
     );
-    let highest = core.step(
-        &mut scratch,
-        &inst,
-        &numbers,
-        Event::Raise { place: 0, to: 13 },
-    );
+    let highest = core.step(&mut scratch, &inst, Event::Raise { place: 0, to: 13 });
     assert_eq!(rt; highest, Ok(()));
-    let lowest = core.step(
-        &mut scratch,
-        &inst,
-        &numbers,
-        Event::Cap { place: 0, to: 14 },
-    );
+    let lowest = core.step(&mut scratch, &inst, Event::Cap { place: 0, to: 14 });
     assert_eq!(rt; lowest, Ok(()));
     let rows = core.rows();
     assert_eq!(rt; rows.len(), 2);
