@@ -12,3 +12,6 @@ pub mod CountedLaws
 pub mod RankLaws
 pub mod OrderLaws
 pub mod FirstCostLaws
+pub mod CheaperLaws
+pub mod HuffmanCount
+pub mod PotentialLaws

@@ -13,13 +13,16 @@
 mod choice;
 mod estimate;
 mod lower;
+mod mass;
 mod merging;
 mod order;
 mod ordered;
+mod potential;
 mod ranked;
 mod scratch;
 mod sorting;
 mod steps;
+mod sums;
 #[cfg(test)]
 mod tests;
 mod weights;

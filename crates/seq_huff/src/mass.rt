@@ -1,0 +1,100 @@
+//! The mass of a group: what it weighs, and what the potential says of its classes together. Both are
+//! sums over the classes, so the mass of one part of a group gives that of the other; and the mass alone
+//! says how much Huffman's cost of the group is at least.
+ghost use Rattle.std.specs.Prelude.{◌≡◌, ◌+◌, ◌*◌, ◌^◌, ◌<◌, ◌≤◌, ℕ};
+ghost use Rattle.seq_theory.specs.Problem.{IsWithin, weight_of};
+ghost use Rattle.seq_inst.specs.Members.{members};
+ghost use Rattle.seq_inst.specs.Instances.{problem_of};
+ghost use Rattle.seq_huff.specs.Orders.{IsOrderOf};
+ghost use Rattle.seq_huff.specs.Potential.{unit, potential as potential_at, potentials};
+ghost use Rattle.seq_huff.specs.Estimates.{IsMassOf};
+
+use crate::order::Order;
+use crate::potential::{UNIT, nearly_potential};
+use seq_inst::{Group, Instance, count_of};
+
+/// The weight of some classes, and the sum of their potentials.
+#[derive(Clone, Copy)]
+pub(crate) struct Mass {
+    pub(crate) weight: u64,
+    pub(crate) potential: u64,
+}
+
+/// The masses of the two parts that a test makes of a group.
+#[derive(Clone, Copy)]
+pub(crate) struct PartMasses {
+    pub(crate) pass: Mass,
+    pub(crate) fail: Mass,
+}
+
+/// The mass of the group. It goes from class to class, and passes over words without one.
+pub(crate) fn mass_of(order: &Order, inst: &Instance, group: &Group) -> Mass
+    requires order { IsOrderOf (problem_of inst.now) order.now }
+    requires within { IsWithin (problem_of inst.now) (members group.now) }
+    ensures { IsMassOf (problem_of inst.now) (members group.now) result }
+{
+    let mut weight = 0;
+    let mut potential = 0;
+    let mut next = group.first_from(0);
+    while let Some(class) = next {
+        weight += inst.weights[class as usize];
+        potential += order.potentials[class as usize];
+        next = group.first_from(class + 1);
+    }
+    Mass { weight, potential }
+}
+
+/// What is left of a mass without a part of it.
+fn without(whole: Mass, part: Mass) -> Mass
+    requires weight { part.weight ≤ whole.weight }
+    requires potential { part.potential ≤ whole.potential }
+    ensures weight { result.weight + part.weight ≡ whole.weight }
+    ensures potential { result.potential + part.potential ≡ whole.potential }
+{
+    Mass {
+        weight: whole.weight - part.weight,
+        potential: whole.potential - part.potential,
+    }
+}
+
+/// The masses of both parts of a group of this mass. Only the part of fewer classes is gone through.
+pub(crate) fn masses_of(
+    order: &Order,
+    inst: &Instance,
+    whole: Mass,
+    pass: &Group,
+    fail: &Group,
+) -> PartMasses
+    requires order { IsOrderOf (problem_of inst.now) order.now }
+    requires within_pass { IsWithin (problem_of inst.now) (members pass.now) }
+    requires within_fail { IsWithin (problem_of inst.now) (members fail.now) }
+    requires weight { whole.weight ≡ weight_of (problem_of inst.now) (members pass.now) + weight_of (problem_of inst.now) (members fail.now) }
+    requires potential { whole.potential ≡ potentials (problem_of inst.now) (members pass.now) + potentials (problem_of inst.now) (members fail.now) }
+    ensures pass { IsMassOf (problem_of inst.now) (members pass.now) result.pass }
+    ensures fail { IsMassOf (problem_of inst.now) (members fail.now) result.fail }
+{
+    if count_of(pass) <= count_of(fail) {
+        let mass = mass_of(order, inst, pass);
+        PartMasses {
+            pass: mass,
+            fail: without(whole, mass),
+        }
+    } else {
+        let mass = mass_of(order, inst, fail);
+        PartMasses {
+            pass: without(whole, mass),
+            fail: mass,
+        }
+    }
+}
+
+/// At most Huffman's cost of the weights of some classes of this mass.
+pub(crate) fn least_huffman(mass: Mass) -> u64
+    requires some { 1 ≤ mass.weight }
+    requires light { mass.weight < 2 ^ 32 }
+    ensures { (huffman : ℕ) → potential_at mass.weight ≤ mass.potential + unit * huffman → result ≤ huffman }
+{
+    nearly_potential(mass.weight)
+        .saturating_sub(mass.potential)
+        .div_ceil(UNIT)
+}
