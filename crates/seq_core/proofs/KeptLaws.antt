@@ -1,12 +1,13 @@
 -- The tests of a group of which some are evaluated and some wait. A test that is evaluated leaves the list of those that wait
 -- and goes to the evaluated ones, and none other is touched: so each that was covered is covered still, whatever its sum.
-use Rattle.std.proofs.Common.{◌≡◌, ◌⊎◌, ℕ, zero, suc, ◌+◌, ◌<◌, ◌≤◌, List, [], ◌∷◌, ◌++◌, length, get_or, inl, inr, refl, sym, ap, ◌∙◌, subst, arith, true, false, All, Contains, map, Some, slice_get, swap_remove, IsPermutation}
-use Rattle.std.proofs.lemmas.Bool.{cases_lt, true≢false}
+use Rattle.std.proofs.Common.{◌≡◌, ◌⊎◌, ℕ, zero, suc, ◌+◌, ◌<◌, ◌≤◌, Bool, filter, nat_le, cond, List, [], ◌∷◌, ◌++◌, length, get_or, inl, inr, refl, sym, ap, ◌∙◌, subst, arith, true, false, All, Contains, map, Some, slice_get, swap_remove, IsPermutation}
+use Rattle.std.proofs.lemmas.Bool.{cases_lt, cases_Bool, true≢false, le-leb, lt-leb}
 use Rattle.std.proofs.lemmas.List.{map-append}
-use Rattle.std.proofs.lemmas.List.Elements.{All-head, All-tail, All-nil, All-push, All-weaker}
+use Rattle.std.proofs.lemmas.List.Elements.{All-head, All-tail, All-nil, All-push, All-weaker, All-filter}
 use Rattle.std.proofs.lemmas.List.Sorted.{IsPermutation-swap_remove, All-permutation, Contains-permutation}
 use Rattle.std.proofs.lemmas.Option.{slice_get-get_or, slice_get_within}
 use Rattle.seq_theory.specs.Problem.{Problem, IsIn, splits, splitting, pass_part, fail_part, count_up}
+use Rattle.seq_theory.specs.Greedy.{first_least}
 use Rattle.seq_theory.proofs.GroupLaws.{IsIn-filter, filter-IsIn, filter_passes}
 use Rattle.seq_theory.proofs.LeastLaws.{IsIn-count_up, count_up-IsIn}
 use Rattle.seq_core.specs.declared.kept.Kept.{Kept}
@@ -158,3 +159,174 @@ module _ (p : Problem) (group : List ℕ) (before after : Numbered) (keeps : Kee
         | inl same ↦ inl (subst (IsIn t) (sym tests) (subst (λ n. IsIn n (map (λ (s : Split). s.test) old.splits.items ++ e.split.test ∷ [])) (e.test_is ∙ ap (λ (w : Waiting). w.test) same ∙ b.test_is) (listed-last e.split.test (map (λ (s : Split). s.test) old.splits.items))))
         | inr stays ↦ inr (inl (record { entry = b.entry; waits = stays; test_is = b.test_is; least = b.least }))
       ]
+
+-- ---- what is known of the tests stays known ----
+
+-- what holds of the test of each evaluated one
+all-tests : (P : ℕ → Type 0) (t : ℕ) (listed : List Split) → All (λ s. P s.test) listed → IsIn t (map (λ s. s.test) listed) → P t
+all-tests P t [] h i = absurd i
+all-tests P t (s ∷ rest) h (inl e) = subst P e (All-head (λ (s : Split). P s.test) s rest h)
+all-tests P t (s ∷ rest) h (inr i) = all-tests P t rest (All-tail (λ (s : Split). P s.test) s rest h) i
+
+-- the test of the evaluated one at a place is listed
+pub listed-at : (listed : List Split) (k : ℕ) (s : Split) → slice_get listed k ≡ Some s → IsIn s.test (map (λ s. s.test) listed)
+listed-at [] k s e = absurd (let bad : ⊥ = cc in bad)
+listed-at (x ∷ rest) zero s e = inl (let same : x ≡ s = cc in ap (λ (s : Split). s.test) same)
+listed-at (x ∷ rest) (suc k) s e = inr (listed-at rest k s e)
+
+-- an evaluated test stays, or its sum is above the up
+stays-listed : (sum : ℕ → ℕ) (up : ℕ) (keep : Split → Bool) (t : ℕ) (listed : List Split) → All (λ s. keep s ≡ false → up < sum s.test) listed → IsIn t (map (λ s. s.test) listed)
+    → IsIn t (map (λ s. s.test) (filter keep listed)) ⊎ (up < sum t)
+stays-listed sum up keep t [] h i = absurd i
+stays-listed sum up keep t (s ∷ rest) h i = elim (cases_Bool (keep s)) [
+  | inl y ↦ rw y (first (λ j. stays-listed sum up keep t rest (All-tail (λ (s : Split). keep s ≡ false → up < sum s.test) s rest h) j) i)
+  | inr n ↦ rw n (out n (λ j. stays-listed sum up keep t rest (All-tail (λ (s : Split). keep s ≡ false → up < sum s.test) s rest h) j) i)
+]
+  where
+    first : (IsIn t (map (λ (s : Split). s.test) rest) → IsIn t (map (λ (s : Split). s.test) (filter keep rest)) ⊎ (up < sum t)) → IsIn t (s.test ∷ map (λ (s : Split). s.test) rest)
+        → IsIn t (s.test ∷ map (λ (s : Split). s.test) (filter keep rest)) ⊎ (up < sum t)
+    first later (inl e) = inl (inl e)
+    first later (inr j) = elim (later j) [ inl l ↦ inl (inr l) | inr above ↦ inr above ]
+
+    out : keep s ≡ false → (IsIn t (map (λ (s : Split). s.test) rest) → IsIn t (map (λ (s : Split). s.test) (filter keep rest)) ⊎ (up < sum t)) → IsIn t (s.test ∷ map (λ (s : Split). s.test) rest)
+        → IsIn t (map (λ (s : Split). s.test) (filter keep rest)) ⊎ (up < sum t)
+    out n later (inl e) = inr (subst (λ m. up < sum m) e (All-head (λ (s : Split). keep s ≡ false → up < sum s.test) s rest h n))
+    out n later (inr j) = later j
+
+-- an entry stays, or its number is above the up
+stays-waiting : (up : ℕ) (keep : Waiting → Bool) (w : Waiting) (waiting : List Waiting) → All (λ w. keep w ≡ false → up < w.least) waiting → Waits w waiting → Waits w (filter keep waiting) ⊎ (up < w.least)
+stays-waiting up keep w [] h i = absurd i
+stays-waiting up keep w (x ∷ rest) h i = elim (cases_Bool (keep x)) [
+  | inl y ↦ rw y (first (λ j. stays-waiting up keep w rest (All-tail (λ (w : Waiting). keep w ≡ false → up < w.least) x rest h) j) i)
+  | inr n ↦ rw n (out n (λ j. stays-waiting up keep w rest (All-tail (λ (w : Waiting). keep w ≡ false → up < w.least) x rest h) j) i)
+]
+  where
+    first : (Waits w rest → Waits w (filter keep rest) ⊎ (up < w.least)) → Waits w (x ∷ rest) → Waits w (x ∷ filter keep rest) ⊎ (up < w.least)
+    first later (inl e) = inl (inl e)
+    first later (inr j) = elim (later j) [ inl l ↦ inl (inr l) | inr above ↦ inr above ]
+
+    out : keep x ≡ false → (Waits w rest → Waits w (filter keep rest) ⊎ (up < w.least)) → Waits w (x ∷ rest) → Waits w (filter keep rest) ⊎ (up < w.least)
+    out n later (inl e) = inr (subst (λ (w : Waiting). up < w.least) e (All-head (λ (w : Waiting). keep w ≡ false → up < w.least) x rest h n))
+    out n later (inr j) = later j
+
+module _ (p : Problem) (group : List ℕ) where
+  -- where more groups have numbers
+  pub tests-numbered : (before after : Numbered) (sum : ℕ → ℕ) (up : ℕ) (listed : List Split) (waiting : List Waiting) → KeepsNumbers before after
+      → AreTestsOf p before group sum up listed waiting → AreTestsOf p after group sum up listed waiting
+  tests-numbered before after sum up listed waiting keeps h = record {
+    covers = h.covers;
+    parts = All-weaker (HasParts p before group) (HasParts p after group) (parts-kept p group before after keeps) listed h.parts;
+    splits_are = h.splits_are;
+    waiting_are = h.waiting_are;
+  }
+
+  -- where the sums rise and the up falls
+  pub tests-risen : (v : Numbered) (sum more : ℕ → ℕ) (up down : ℕ) (listed : List Split) (waiting : List Waiting) → ((t : ℕ) → sum t ≤ more t) → down ≤ up
+      → AreTestsOf p v group sum up listed waiting → AreTestsOf p v group more down listed waiting
+  tests-risen v sum more up down listed waiting rises falls h = record {
+    covers = λ t i. elim (h.covers t i) [
+      | inl l ↦ inl l
+      | inr (inl b) ↦ (let below = b.least in let r = rises t in inr (inl (record { entry = b.entry; waits = b.waits; test_is = b.test_is; least = omega arith })))
+      | inr (inr above) ↦ (let r = rises t in inr (inr (omega arith)))
+    ];
+    parts = h.parts;
+    splits_are = h.splits_are;
+    waiting_are = h.waiting_are;
+  }
+
+  -- where evaluated tests of which the sums are above the up are left out
+  pub tests-fewer_listed : (v : Numbered) (sum : ℕ → ℕ) (up : ℕ) (keep : Split → Bool) (listed fewer : List Split) (waiting : List Waiting) → fewer ≡ filter keep listed
+      → All (λ s. keep s ≡ false → up < sum s.test) listed → AreTestsOf p v group sum up listed waiting → AreTestsOf p v group sum up fewer waiting
+  tests-fewer_listed v sum up keep listed fewer waiting e others h = subst (λ l. AreTestsOf p v group sum up l waiting) (sym e) (record {
+    covers = λ t i. elim (h.covers t i) [
+      | inl l ↦ elim (stays-listed sum up keep t listed others l) [ inl there ↦ inl there | inr above ↦ inr (inr above) ]
+      | inr other ↦ inr other
+    ];
+    parts = All-filter keep (HasParts p v group) listed h.parts;
+    splits_are = All-filter keep (λ (s : Split). IsIn s.test (splitting p group)) listed h.splits_are;
+    waiting_are = h.waiting_are;
+  })
+
+  -- where waiting tests of which the numbers are above the up are left out
+  pub tests-fewer_waiting : (v : Numbered) (sum : ℕ → ℕ) (up : ℕ) (keep : Waiting → Bool) (listed : List Split) (waiting fewer : List Waiting) → fewer ≡ filter keep waiting
+      → All (λ w. keep w ≡ false → up < w.least) waiting → AreTestsOf p v group sum up listed waiting → AreTestsOf p v group sum up listed fewer
+  tests-fewer_waiting v sum up keep listed waiting fewer e others h = subst (AreTestsOf p v group sum up listed) (sym e) (record {
+    covers = λ t i. elim (h.covers t i) [
+      | inl l ↦ inl l
+      | inr (inl b) ↦ elim (stays-waiting up keep b.entry waiting others b.waits) [
+        | inl there ↦ inr (inl (record { entry = b.entry; waits = there; test_is = b.test_is; least = b.least }))
+        | inr above ↦ (let below = b.least in inr (inr (omega arith)))
+      ]
+      | inr (inr above) ↦ inr (inr above)
+    ];
+    parts = h.parts;
+    splits_are = h.splits_are;
+    waiting_are = All-filter keep (λ (w : Waiting). IsIn w.test (splitting p group)) waiting h.waiting_are;
+  })
+
+-- ---- the test of least sum ----
+
+-- each number is below all that come after it
+abbrev AreUpward : List ℕ → Type 0
+AreUpward [] = Unit {0}
+AreUpward (x ∷ rest) = ((t : ℕ) → IsIn t rest → x < t) × AreUpward rest
+
+upward-count_up : (from n : ℕ) → AreUpward (count_up from n)
+upward-count_up from zero = tt
+upward-count_up from (suc n) = (λ t i. (let b = (count_up-IsIn t (suc from) n i).0 in omega arith), upward-count_up (suc from) n)
+
+upward-filter : (f : ℕ → Bool) (xs : List ℕ) → AreUpward xs → AreUpward (filter f xs)
+upward-filter f [] u = tt
+upward-filter f (x ∷ xs) u = elim (cases_Bool (f x)) [
+  | inl y ↦ rw y ((λ t i. u.0 t (filter-IsIn f t xs i)), upward-filter f xs u.1)
+  | inr n ↦ rw n (upward-filter f xs u.1)
+]
+
+first_least-in : (f : ℕ → ℕ) (x : ℕ) (xs : List ℕ) → IsIn (first_least f (x ∷ xs)) (x ∷ xs)
+first_least-in f x [] = inl refl
+first_least-in f x (y ∷ rest) = go (nat_le (f x) (f (first_least f (y ∷ rest)))) (first_least-in f y rest)
+  where
+    go : (b : Bool) → IsIn (first_least f (y ∷ rest)) (y ∷ rest) → IsIn (cond b x (first_least f (y ∷ rest))) (x ∷ y ∷ rest)
+    go true i = inl refl
+    go false i = inr i
+
+-- the lowest of those at which f is least is the first of them
+first-upward : (f : ℕ → ℕ) (u : ℕ) (xs : List ℕ) → AreUpward xs → IsIn u xs → ((t : ℕ) → IsIn t xs → f u ≤ f t) → ((t : ℕ) → IsIn t xs → f t ≡ f u → u ≤ t) → u ≡ first_least f xs
+first-upward f u [] upward i low ties = absurd i
+first-upward f u (x ∷ []) upward (inl e) low ties = sym e
+first-upward f u (x ∷ []) upward (inr i) low ties = absurd i
+first-upward f u (x ∷ y ∷ rest) upward (inl e) low ties =
+    let le = low (first_least f (y ∷ rest)) (inr (first_least-in f y rest)) in
+    let same = ap f e in
+    rw (le-leb (f x) (f (first_least f (y ∷ rest))) (omega arith)) (sym e)
+first-upward f u (x ∷ y ∷ rest) upward (inr i) low ties =
+    let later = first-upward f u (y ∷ rest) upward.1 i (λ t j. low t (inr j)) (λ t j. ties t (inr j)) in
+    let same = ap f later in
+    let after = upward.0 u i in
+    let le = low x (inl refl) in
+    elim (cases_lt (f u) (f x)) [
+      | inl lt ↦ rw (lt-leb (f x) (f (first_least f (y ∷ rest))) (omega arith)) later
+      | inr ge ↦ absurd (let equal : f x ≡ f u = omega arith in let behind = ties x (inl refl) equal in let bad : ⊥ = omega arith in bad)
+    ]
+
+module _ (p : Problem) (v : Numbered) (group : List ℕ) (sum : ℕ → ℕ) (up : ℕ) (listed : List Split) (waiting : List Waiting) (h : AreTestsOf p v group sum up listed waiting) (u : ℕ) where
+  -- a sum that is at most each evaluated one, each number that a test waits with, and the up, is at most that of each test that
+  -- splits the group
+  pub tests-least : All (λ s. sum u ≤ sum s.test) listed → All (λ w. sum u ≤ w.least) waiting → sum u ≤ up → (t : ℕ) → IsIn t (splitting p group) → sum u ≤ sum t
+  tests-least lists waits le t i = elim (h.covers t i) [
+    | inl l ↦ all-tests (λ n. sum u ≤ sum n) t listed lists l
+    | inr (inl b) ↦ (let a = all-waits (λ w. sum u ≤ w.least) b.entry waiting waits b.waits in let below = b.least in omega arith)
+    | inr (inr above) ↦ omega arith
+  ]
+
+  -- of the evaluated ones of least sum the lowest is the first of least sum of all, where each that waits has a greater sum
+  pub tests-first : IsIn u (map (λ s. s.test) listed) → All (λ s. sum u ≤ sum s.test) listed → All (λ s. sum s.test ≡ sum u → u ≤ s.test) listed → All (λ w. sum u < w.least) waiting → sum u ≤ up
+      → u ≡ first_least sum (splitting p group)
+  tests-first there lists ties waits le =
+      first-upward sum u (splitting p group) (upward-filter (splits p group) (count_up 0 p.tests) (upward-count_up 0 p.tests)) (all-tests (λ n. IsIn n (splitting p group)) u listed h.splits_are there)
+      (tests-least lists (All-weaker (λ (w : Waiting). sum u < w.least) (λ (w : Waiting). sum u ≤ w.least) (λ w lt. omega arith) waiting waits) le)
+      (λ t i e. elim (h.covers t i) [
+        | inl l ↦ all-tests (λ n. sum n ≡ sum u → u ≤ n) t listed ties l e
+        | inr (inl b) ↦ absurd (let a = all-waits (λ w. sum u < w.least) b.entry waiting waits b.waits in let below = b.least in let bad : ⊥ = omega arith in bad)
+        | inr (inr above) ↦ absurd (let bad : ⊥ = omega arith in bad)
+      ])

@@ -112,6 +112,7 @@ impl Kept {
         ensures numbers { AreNumbers (problem_of inst.now) numbers.new }
         ensures keeps { KeepsNumbers numbers.old numbers.new }
         ensures kept { IfOk result (IsKeptOf (problem_of inst.now) numbers.new (members group.now)) }
+        ensures none { IfOk result (λ k. k.splits.items ≡ []) }
     {
         let number = numbers.number_of(scratch, inst, group)?;
         let greedy = numbers.greedy_of(scratch, inst, group)?;

@@ -4,7 +4,8 @@
 //! each of which it accepts exactly where the rows allow it; so the rows stay sound whatever is played.
 //! `lows` and `vals` work out the best bounds that a set of entered groups gives. `Numbers` keeps the
 //! bound of each group that a search has met, and greedy's cost where it was asked for, and `Kept` is
-//! what an engine keeps of a group that it enters; both save work and change no result.
+//! what an engine keeps of a group that it enters, with the tests that were evaluated and those that wait
+//! with a number that is at most their sum; both save work and change no result.
 #![tactic(auto)]
 
 mod event;
