@@ -20,6 +20,9 @@ use seq_huff::{Estimate, Order, Scratch};
 use seq_inst::{Answer, Group, Instance, part, splits, weight_of};
 use std::alloc::{AllocError, Global};
 
+/// The room that is made before greedy is asked, for the groups that its tree meets.
+const ROOM_FOR_GREEDY: u32 = 4096;
+
 /// A test that splits a group, with the numbers of the part that passes it and the part that fails it.
 #[derive(Clone, Copy, Debug, PartialEq, Eq)]
 pub struct Split {
@@ -115,7 +118,8 @@ impl Kept {
         ensures none { IfOk result (λ k. k.splits.items ≡ []) }
     {
         let number = numbers.number_of(scratch, inst, group)?;
-        let greedy = numbers.greedy_of(scratch, inst, group)?;
+        numbers.reserve(ROOM_FOR_GREEDY)?;
+        let greedy = numbers.greedy_of(scratch, inst, group);
         let waiting = waiting_of(alloc, numbers.order(), inst, group, greedy)?;
         Ok(Kept {
             number,
