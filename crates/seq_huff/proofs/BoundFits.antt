@@ -82,7 +82,7 @@ next-le (suc k) [] = omega arith
 next-le zero (x ∷ xs) = omega (arith, sum_by-cons (λ n. n) x xs)
 next-le (suc k) (x ∷ xs) = omega (arith, sum_by-cons (λ n. n) x xs, next-le k xs)
 
-sum-map-le : (f : ℕ → ℕ) (most : ℕ) (xs : List ℕ) → ((t : ℕ) → IsIn t xs → f t ≤ most) → sum (map f xs) ≤ length xs * most
+pub sum-map-le : (f : ℕ → ℕ) (most : ℕ) (xs : List ℕ) → ((t : ℕ) → IsIn t xs → f t ≤ most) → sum (map f xs) ≤ length xs * most
 sum-map-le f most [] h = omega arith
 sum-map-le f most (x ∷ xs) h =
     let a = h x (inl refl) in

@@ -8,7 +8,6 @@ use Rattle.std.proofs.lemmas.Bool.{cases_Bool, cases_lt, cases_order, le-leb, lt
 use Rattle.seq_theory.specs.Problem.{count_up}
 use Rattle.seq_theory.specs.Huffman.{place_in, upward}
 use Rattle.seq_theory.specs.Bound.{sum_first, next_after, bound_from}
-use Rattle.seq_theory.proofs.HuffmanLaws.{length-place}
 use Rattle.seq_theory.proofs.UpwardLaws.{IsUp, IsUp-upward, place-swap}
 
 -- the first list is at least as long, and no dearer place by place

@@ -8,10 +8,13 @@ pub mod BoundFits
 pub mod GreedyCode
 pub mod LeastBounds
 pub mod GreedyShape
+pub mod MassLaws
 pub mod CountedLaws
 pub mod RankLaws
 pub mod OrderLaws
 pub mod FirstCostLaws
+pub mod SumsLaws
 pub mod CheaperLaws
 pub mod HuffmanCount
 pub mod PotentialLaws
+pub mod EstimateLaws

@@ -74,7 +74,7 @@ impl Estimate {
     /// At most the bound of a part of this weight, where Huffman's cost of it is at least this, and the
     /// test that is asked costs so much.
     fn least_bound(&self, cost: u64, weight: u64, huffman: u64) -> u64
-        requires sums { (count : ℕ) → slice_index self.now.sums count ≤ 256000000 }
+        requires sums { (count : ℕ) → count < 258 → slice_index self.now.sums count ≤ 256000000 }
         requires some { 1 ≤ weight }
         requires light { weight ≤ 4097000000 }
         requires few { huffman ≤ weight * 255 }

@@ -1,4 +1,4 @@
-use Rattle.std.proofs.Common.{◌*◌, ◌/◌, ◌%◌, ◌^◌, ◌<◌, ◌+◌, arith}
+use Rattle.std.proofs.Common.{◌*◌, ◌/◌, ◌%◌, ◌^◌, ◌+◌, arith}
 use Rattle.seq_huff.specs.Potential.{lines}
 use Rattle.seq_huff.proofs.PotentialLaws.{slope-small, less-small, one-line, top-small}
 use Rattle.seq_huff.proofs.potential.nearly_potential.Goals as goal

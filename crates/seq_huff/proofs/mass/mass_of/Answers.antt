@@ -1,0 +1,73 @@
+use Rattle.std.proofs.Common.{◌≡◌, ◌+◌, ◌∙◌, ℕ, refl, arith, subst}
+use Rattle.std.specs.Prelude.{Option, Some}
+use Rattle.std.proofs.lemmas.List.{get_or_read}
+use Rattle.seq_inst.specs.Members.{members_below}
+use Rattle.seq_inst.specs.Instances.{problem_of}
+use Rattle.seq_inst.proofs.FirstLaws.{IsClass, reached, found-by, found-class, first-members, next-members}
+use Rattle.seq_inst.proofs.PartsLaws.{class-within}
+use Rattle.seq_huff.specs.Potential.{potential}
+use Rattle.seq_huff.proofs.MassLaws.{MassBelow, mass-none, mass-more, mass-small}
+use Rattle.seq_huff.proofs.mass.mass_of.Goals as goal
+
+pub loop-next-init : goal.loop-next-init
+loop-next-init c =
+    let found = found-by c.args.group.now 0 c.first_from-next.result c.first_from-next.ensures.found c.first_from-next.ensures.none in
+    record {
+      class = found-class c.args.group.now 0 c.first_from-next.result found;
+      mass = mass-none c.args.inst.now _ (first-members c.args.group.now c.first_from-next.result found);
+    }
+
+pub index-requires : goal.index-requires
+index-requires c =
+    let class : IsClass c.args.group.now (Some c.in-Some.class) = subst (IsClass c.args.group.now) c.in-Some.is c.loop-next.invariant.class in
+    let there = class-within (problem_of c.args.inst.now) c.args.group.now c.in-Some.class c.requires.within class.0 class.1 in
+    let n = c.args.inst.now.weights.ok.0 in
+    omega arith
+
+pub index-requires-in-Some : goal.index-requires-in-Some
+index-requires-in-Some c =
+    let class : IsClass c.args.group.now (Some c.in-Some.class) = subst (IsClass c.args.group.now) c.in-Some.is c.loop-next.invariant.class in
+    let there = class-within (problem_of c.args.inst.now) c.args.group.now c.in-Some.class c.requires.within class.0 class.1 in
+    let n = c.args.order.now.potentials.ok.0 in
+    let m = c.requires.order.as_many_potentials in
+    omega arith
+
+pub overflow_add-weight : goal.overflow_add-weight
+overflow_add-weight c =
+    let p = problem_of c.args.inst.now in
+    let class : IsClass c.args.group.now (Some c.in-Some.class) = subst (IsClass c.args.group.now) c.in-Some.is c.loop-next.invariant.class in
+    let there = class-within p c.args.group.now c.in-Some.class c.requires.within class.0 class.1 in
+    let w : c.index.result.now ≡ p.weight c.in-Some.class = get_or_read c.args.inst.now.weights.items c.in-Some.class c.index.result.now there c.index.ensures 0 in
+    let mass = subst (λ (o : Option ℕ). MassBelow c.args.inst.now (members_below c.args.group.now (reached o)) c.loop-next.weight c.loop-next.potential) c.in-Some.is c.loop-next.invariant.mass in
+    let small = mass-small c.args.inst.now c.args.group.now c.in-Some.class c.loop-next.weight c.loop-next.potential c.index.result.now (potential (p.weight c.in-Some.class)) c.requires.within class.0 class.1 mass w refl in
+    let a = small.0 in
+    omega arith
+
+pub overflow_add-potential : goal.overflow_add-potential
+overflow_add-potential c =
+    let p = problem_of c.args.inst.now in
+    let class : IsClass c.args.group.now (Some c.in-Some.class) = subst (IsClass c.args.group.now) c.in-Some.is c.loop-next.invariant.class in
+    let there = class-within p c.args.group.now c.in-Some.class c.requires.within class.0 class.1 in
+    let w : c.index.result.now ≡ p.weight c.in-Some.class = get_or_read c.args.inst.now.weights.items c.in-Some.class c.index.result.now there c.index.ensures 0 in
+    let m = c.requires.order.as_many_potentials in
+    let v : c.index-in-Some.result.now ≡ potential (p.weight c.in-Some.class) = get_or_read c.args.order.now.potentials.items c.in-Some.class c.index-in-Some.result.now (omega arith) c.index-in-Some.ensures 0 ∙ c.requires.order.potentials c.in-Some.class there in
+    let mass = subst (λ (o : Option ℕ). MassBelow c.args.inst.now (members_below c.args.group.now (reached o)) c.loop-next.weight c.loop-next.potential) c.in-Some.is c.loop-next.invariant.mass in
+    let small = mass-small c.args.inst.now c.args.group.now c.in-Some.class c.loop-next.weight c.loop-next.potential c.index.result.now c.index-in-Some.result.now c.requires.within class.0 class.1 mass w v in
+    let a = small.1 in
+    omega arith
+
+pub loop-next-preserved : goal.loop-next-preserved
+loop-next-preserved c =
+    let p = problem_of c.args.inst.now in
+    let g = c.args.group.now in
+    let class : IsClass g (Some c.in-Some.class) = subst (IsClass g) c.in-Some.is c.loop-next.invariant.class in
+    let there = class-within p g c.in-Some.class c.requires.within class.0 class.1 in
+    let w : c.index.result.now ≡ p.weight c.in-Some.class = get_or_read c.args.inst.now.weights.items c.in-Some.class c.index.result.now there c.index.ensures 0 in
+    let m = c.requires.order.as_many_potentials in
+    let v : c.index-in-Some.result.now ≡ potential (p.weight c.in-Some.class) = get_or_read c.args.order.now.potentials.items c.in-Some.class c.index-in-Some.result.now (omega arith) c.index-in-Some.ensures 0 ∙ c.requires.order.potentials c.in-Some.class there in
+    let mass = subst (λ (o : Option ℕ). MassBelow c.args.inst.now (members_below g (reached o)) c.loop-next.weight c.loop-next.potential) c.in-Some.is c.loop-next.invariant.mass in
+    let found = found-by g (c.in-Some.class + 1) c.first_from-next-in-Some.result c.first_from-next-in-Some.ensures.found c.first_from-next-in-Some.ensures.none in
+    record {
+      class = found-class g (c.in-Some.class + 1) c.first_from-next-in-Some.result found;
+      mass = mass-more c.args.inst.now (members_below g c.in-Some.class) (members_below g (reached c.first_from-next-in-Some.result)) c.in-Some.class c.loop-next.weight c.loop-next.potential c.index.result.now c.index-in-Some.result.now mass (next-members g c.in-Some.class c.first_from-next-in-Some.result class.0 class.1 found) w v;
+    }
