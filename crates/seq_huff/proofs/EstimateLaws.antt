@@ -214,7 +214,7 @@ module _ (inst : Instance) (g part : Group) (f : ℕ → Bool) (within : IsWithi
       let all = costs-few inst g in
       let fewer : suc (length (splitting_costs p (members part))) ≤ length (splitting_costs p (members g)) = subst (λ l. suc (length (splitting_costs p l)) ≤ length (splitting_costs p (members g))) (sym is) (fewer-part p (members g) t f there inside outside) in
       let each : (q : ℕ) → q ≤ length (splitting_costs p (members part)) → sum_without e.sums (p.cost t) q ≤ sum_first q (splitting_costs p (members part)) =
-          subst (λ l. (q : ℕ) → q ≤ length (splitting_costs p l) → sum_without e.sums (p.cost t) q ≤ sum_first q (splitting_costs p l)) (sym is) (without-part p (members g) t f there inside outside e.sums estimate.sums all) in
+      subst (λ l. (q : ℕ) → q ≤ length (splitting_costs p l) → sum_without e.sums (p.cost t) q ≤ sum_first q (splitting_costs p l)) (sym is) (without-part p (members g) t f there inside outside e.sums estimate.sums all) in
       let b1 = bound_without-le (weight_of p (members part)) high huffman (p.cost t) e.sums (splitting_costs p (members part)) w low (omega arith) each in
       let b2 = bound_from-bound p (members part) (weighed inst) part-within part-some in
       let b3 = ap (λ c. bound_without e.sums c m.weight huffman) ce ∙ ap (λ n. bound_without e.sums (p.cost t) n huffman) we in

@@ -7,7 +7,9 @@
 //! strategy that it makes.
 //!
 //! A search asks for the bounds of many groups of one instance. It makes an `Order` of the instance once,
-//! and `ordered_bound` then gives each bound without a sort.
+//! and `ordered_bound` then gives each bound without a sort. What it asks of a group's tests are their sums
+//! over the bounds of their parts; an `Estimate` of the group gives a number that is at most such a sum and
+//! takes far less time than the two bounds, so that most tests need not be evaluated.
 #![tactic(auto)]
 
 mod choice;

@@ -2,8 +2,10 @@
 ghost use Rattle.std.specs.Prelude.{◌≡◌, IfOk, vec_len};
 
 use crate::merging::huffman_of;
-use crate::{Order, Scratch, bound, greedy, greedy_cost, huffman, one_step, ordered_bound};
-use seq_inst::{Answer, Group, Instance, cost_of, part, root};
+use crate::{
+    Estimate, Order, Scratch, bound, greedy, greedy_cost, huffman, one_step, ordered_bound,
+};
+use seq_inst::{Answer, Group, Instance, cost_of, part, root, splits};
 use std::alloc::{AllocError, Global};
 use std::test::Fail;
 
@@ -124,5 +126,25 @@ fn an_order_changes_no_bound(rt: HostRuntime) -> Result<(), Fail> {
     assert!(rt; order_agrees(alloc, &two_faults(alloc)?)?);
     assert!(rt; order_agrees(alloc, &receiver(alloc)?)?);
     assert!(rt; order_agrees(alloc, &star(alloc)?)?);
+    Ok(())
+}
+
+/// What is estimated of the first test over all classes, or 0 where it does not split them.
+fn first_estimate(alloc: Global, inst: &Instance) -> Result<u64, AllocError> {
+    let order = Order::of(alloc, inst)?;
+    let all = root(inst);
+    if inst.costs.is_empty() || !splits(inst, &all, 0) {
+        return Ok(0);
+    }
+    Ok(Estimate::of(&order, inst, &all).least_sum(&order, inst, &all, 0))
+}
+
+/// The sums over the bounds are 27, 96 and 13. Without the parts there would be 20, 44 and 5.
+#[test]
+fn estimates_come_near_the_sums(rt: HostRuntime) -> Result<(), Fail> {
+    let alloc = rt.alloc();
+    assert_eq!(rt; first_estimate(alloc, &two_faults(alloc)?)?, 25);
+    assert_eq!(rt; first_estimate(alloc, &receiver(alloc)?)?, 96);
+    assert_eq!(rt; first_estimate(alloc, &star(alloc)?)?, 13);
     Ok(())
 }
