@@ -22,7 +22,7 @@ use Rattle.seq_huff.proofs.BoundFits.{product-le}
 use Rattle.seq_huff.proofs.GreedyCode.{greedy_parts, greedy-small}
 use Rattle.seq_core.specs.declared.greedy.Chosen.{Chosen}
 use Rattle.seq_core.specs.Choice.{IsNoLater, IsEvaluated, evaluated}
-use Rattle.seq_core.specs.Numbered.{Numbered, AreNumbers, KeepsNumbers}
+use Rattle.seq_core.specs.Numbered.{Numbered, capacity, AreNumbers, KeepsNumbers}
 
 -- ---- which comes first ----
 
@@ -160,6 +160,7 @@ module _ (p : Problem) (group : List ℕ) where
 pub record FirstSoFar (p : Problem) (group : List ℕ) (before v : Numbered) (k : ℕ) (c : Chosen) : Type 0 where
   pub numbers : AreNumbers p v
   pub keeps : KeepsNumbers before v
+  pub capacity : capacity v ≡ capacity before
   pub is : IsEvaluated p group c
   pub each : (t : ℕ) → t < k → splits p group t ≡ true → IsNoLater c (evaluated p group t)
 
@@ -167,21 +168,23 @@ pub first-none : (p : Problem) (group : List ℕ) (v : Numbered) (c : Chosen) �
 first-none p group v c are is = record {
   numbers = are;
   keeps = λ g n e. e;
+  capacity = refl;
   is = is;
   each = λ t lt. absurd (let bad : ⊥ = omega arith in bad);
 }
 
-pub first-more : (p : Problem) (group : List ℕ) (before old new : Numbered) (k : ℕ) (c d : Chosen) → FirstSoFar p group before old k c → AreNumbers p new → KeepsNumbers old new → IsEvaluated p group d → IsNoLater d c
+pub first-more : (p : Problem) (group : List ℕ) (before old new : Numbered) (k : ℕ) (c d : Chosen) → FirstSoFar p group before old k c → AreNumbers p new → KeepsNumbers old new → capacity new ≡ capacity old → IsEvaluated p group d → IsNoLater d c
     → (splits p group k ≡ true → IsNoLater d (evaluated p group k)) → FirstSoFar p group before new (k + 1) d
-first-more p group before old new k c d i are keeps is dc last = record {
+first-more p group before old new k c d i are keeps same is dc last = record {
   numbers = are;
   keeps = λ g n e. keeps g n (i.keeps g n e);
+  capacity = same ∙ i.capacity;
   is = is;
   each = λ t lt s. elim (cases_lt t k) [
     | inl l ↦ no_later-both d c (evaluated p group t) dc (i.each t l s)
     | inr ge ↦
-        (let same : t ≡ k = omega arith in
-        subst (λ u. IsNoLater d (evaluated p group u)) (sym same) (last (sym (ap (splits p group) same) ∙ s)))
+        (let it : t ≡ k = omega arith in
+        subst (λ u. IsNoLater d (evaluated p group u)) (sym it) (last (sym (ap (splits p group) it) ∙ s)))
   ];
 }
 
