@@ -111,7 +111,7 @@ impl Numbers {
     }
 
     /// The number of the group, if it has one.
-    fn find(&self, group: &Group) -> Option<u32>
+    pub fn find(&self, group: &Group) -> Option<u32>
         ensures found { IfSome result (HasNumber self.now (members group.now)) }
         ensures none { IfNone result (is_entered self.now.groups (members group.now) ≡ false) }
     {
