@@ -1,11 +1,13 @@
--- The loops over the tests: the first test of least sum so far, and the least value so far.
-use Rattle.std.proofs.Common.{◌≡◌, ℕ, ◌*◌, ◌<◌, ◌≤◌, max, min, List, [], ◌∷◌, ◌++◌, refl, sym, ap, ◌∙◌, arith, inl, inr, subst, Option, Some, None}
-use Rattle.std.specs.Prelude.{Bool, true, false, cond, nat_le, map}
+-- The loops over the evaluated tests: the test of least sum so far, and the least value so far.
+use Rattle.std.proofs.Common.{◌≡◌, ◌⊎◌, ℕ, ◌*◌, ◌<◌, ◌≤◌, max, min, List, [], ◌∷◌, ◌++◌, refl, sym, ap, ◌∙◌, arith, inl, inr, subst, Option, Some, None}
+use Rattle.std.specs.Prelude.{Bool, true, false, cond, nat_le, nat_lt, nat_eq, ◌&&◌, ◌||◌, map}
+use Rattle.std.proofs.lemmas.Bool.{cases_Bool, cases_lt, true≢false, ltb-true, lt-ltb, le-ltb, eqb-true, eq-eqb, leb-true, leb-false}
+use Rattle.std.proofs.lemmas.List.Elements.{All-nil, All-push, All-weaker, Contains-push, Contains-append_left}
 use Rattle.std.specs.List.{filter_map, cons_option}
 use Rattle.seq_theory.specs.Problem.{Problem, IsIn, IsWithin, AreTold, splits, splitting, weight_of, is_end, least_of}
 use Rattle.seq_theory.specs.Bound.{bound, step_sum}
 use Rattle.seq_theory.specs.Greedy.{first_least}
-use Rattle.seq_theory.proofs.LeastOfLaws.{first_least-last, first_least-is}
+use Rattle.seq_theory.proofs.LeastOfLaws.{first_least-is}
 use Rattle.seq_theory.proofs.LeastLaws.{step_reaches, IsIn-count_up}
 use Rattle.seq_theory.proofs.GroupLaws.{IsIn-filter}
 use Rattle.seq_inst.specs.declared.group.Group.{Group}
@@ -16,71 +18,61 @@ use Rattle.seq_inst.proofs.WithinLaws.{light}
 use Rattle.seq_huff.proofs.BoundFits.{product-le}
 use Rattle.seq_core.specs.declared.kept.Split.{Split}
 use Rattle.seq_solo.specs.declared.choice.Chosen.{Chosen}
-use Rattle.seq_solo.specs.Choice.{lesser_choice, lesser_value}
+use Rattle.seq_solo.specs.Choice.{lesser_choice, lesser_value, IsBefore, IsLeastOf, IsChoice}
 
--- the choice so far: the first of the list at which f is least, and f of it
-pub record IsChoice (f : ℕ → ℕ) (x : ℕ) (xs : List ℕ) (o : Option Chosen) : Type 0 where
-  pub chosen : Chosen
-  pub is : o ≡ Some chosen
-  pub test_is : chosen.split.test ≡ first_least f (x ∷ xs)
-  pub sum_is : chosen.sum ≡ f chosen.split.test
+-- ---- the evaluated test of least sum ----
 
-abbrev pub ChosenSoFar : (ℕ → ℕ) → List ℕ → Option Chosen → Type 0
-ChosenSoFar f [] o = o ≡ None
-ChosenSoFar f (x ∷ xs) o = IsChoice f x xs o
+is-before : (a n x y : ℕ) → (nat_lt a n || (nat_eq a n && nat_le x y)) ≡ true → (a < n) ⊎ ((a ≡ n) × (x ≤ y))
+is-before a n x y e = elim (cases_Bool (nat_lt a n)) [
+  | inl l ↦ inl (ltb-true a n l)
+  | inr o ↦ elim (cases_Bool (nat_eq a n)) [
+    | inl same ↦ inr (eqb-true a n same, leb-true x y (rw (o, same) at e))
+    | inr other ↦ absurd (true≢false (sym (rw (o, other) at e)))
+  ]
+]
 
-pub chosen-more : (f : ℕ → ℕ) (xs more : List ℕ) (t : Split) (n : ℕ) (o : Option Chosen) → ChosenSoFar f xs o → more ≡ xs ++ t.test ∷ [] → n ≡ f t.test → ChosenSoFar f more (Some (lesser_choice o t n))
-chosen-more f [] more t n o s e v = subst (λ l. ChosenSoFar f l (Some (lesser_choice o t n))) (sym e)
-    (record { chosen = record { split = t; sum = n }; is = ap (λ p. Some (lesser_choice p t n)) s; test_is = refl; sum_is = v })
-chosen-more f (x ∷ xs) more t n o s e v = subst (λ l. ChosenSoFar f l (Some (lesser_choice o t n))) (sym e)
-    (record {
-      chosen = lesser_choice (Some s.chosen) t n;
-      is = ap (λ p. Some (lesser_choice p t n)) s.is;
-      test_is = tests (nat_le (s.chosen).sum n) ∙ ap (λ b. cond b (first_least f (x ∷ xs)) t.test) same ∙ sym (first_least-last f x t.test xs);
-      sum_is = sums (nat_le (s.chosen).sum n);
-    })
+is-behind : (a n x y : ℕ) → (nat_lt a n || (nat_eq a n && nat_le x y)) ≡ false → (n < a) ⊎ ((n ≡ a) × (y ≤ x))
+is-behind a n x y e = elim (cases_lt n a) [
+  | inl l ↦ inl l
+  | inr le ↦ elim (cases_lt a n) [
+    | inl l ↦ absurd (true≢false (rw (lt-ltb a n l) at e))
+    | inr ge ↦ elim (cases_lt y x) [
+      | inl l ↦ inr ((let same : n ≡ a = omega arith in same), (let le : y ≤ x = omega arith in le))
+      | inr above ↦ inr ((let same : n ≡ a = omega arith in same), leb-from (let o : nat_lt a n ≡ false = le-ltb a n ge in rw (o, eq-eqb a n (omega arith)) at e))
+    ]
+  ]
+]
   where
-    same : nat_le (s.chosen).sum n ≡ nat_le (f (first_least f (x ∷ xs))) (f t.test)
-    same = ap (λ a. nat_le a n) (s.sum_is ∙ ap f s.test_is) ∙ ap (nat_le (f (first_least f (x ∷ xs)))) v
+    leb-from : nat_le x y ≡ false → y ≤ x
+    leb-from f = let l = leb-false x y f in omega arith
 
-    tests : (b : Bool) → (let c : Chosen = cond b s.chosen (record { split = t; sum = n }) in c.split.test) ≡ cond b (first_least f (x ∷ xs)) t.test
-    tests true = s.test_is
-    tests false = refl
+choice-one : (f : ℕ → ℕ) (t : Split) (n : ℕ) → n ≡ f t.test → IsLeastOf f (t ∷ []) (record { split = t; sum = n })
+choice-one f t n v = record { among = (0, omega arith, refl); sum = v; least = All-push (IsBefore f (record { split = t; sum = n })) [] t (All-nil (IsBefore f (record { split = t; sum = n }))) (inr (v, omega arith)) }
 
-    sums : (b : Bool) → (let c : Chosen = cond b s.chosen (record { split = t; sum = n }) in c.sum) ≡ f (let c : Chosen = cond b s.chosen (record { split = t; sum = n }) in c.split.test)
-    sums true = s.sum_is
-    sums false = v
+choice-stays : (f : ℕ → ℕ) (xs : List Split) (t : Split) (n : ℕ) (c : Chosen) → IsLeastOf f xs c → n ≡ f t.test → (c.sum < n) ⊎ ((c.sum ≡ n) × (c.split.test ≤ t.test)) → IsLeastOf f (xs ++ t ∷ []) c
+choice-stays f xs t n c h v before = record {
+  among = Contains-append_left xs (t ∷ []) c.split h.among;
+  sum = h.sum;
+  least = All-push (IsBefore f c) xs t h.least (elim before [ inl l ↦ inl (omega arith) | inr e ↦ inr (e.0 ∙ v, e.1) ]);
+}
 
--- at the end it is the first of all
-pub record IsLeastTest (f : ℕ → ℕ) (xs : List ℕ) (c : Chosen) : Type 0 where
-  pub test : c.split.test ≡ first_least f xs
-  pub sum : c.sum ≡ f c.split.test
-
-some_same : (a b : Chosen) → Some a ≡ Some b → a ≡ b
-some_same a b e = cc
-
-pub chosen-all : (f : ℕ → ℕ) (xs : List ℕ) (c : Chosen) → ChosenSoFar f xs (Some c) → IsLeastTest f xs c
-chosen-all f [] c s = absurd (let bad : ⊥ = cc in bad)
-chosen-all f (x ∷ xs) c s =
-    let e : c ≡ s.chosen = some_same c s.chosen s.is in
-    record {
-      test = ap (λ (z : Chosen). z.split.test) e ∙ s.test_is;
-      sum = ap (λ (z : Chosen). z.sum) e ∙ s.sum_is ∙ ap (λ (z : Chosen). f z.split.test) (sym e);
-    }
-
--- it is the new one or was there before
-pub chosen-either : (P : Split → Type 0) (o : Option Chosen) (s : Split) (n : ℕ) (c : Chosen) → ((x : Chosen) → o ≡ Some x → P x.split) → P s → c ≡ lesser_choice o s n → (x : Chosen) → Some c ≡ Some x → P x.split
-chosen-either P o s n c before here is x e =
-    let same : c ≡ x = some_same c x e in
-    subst (λ (y : Chosen). P y.split) (sym is ∙ same) (go o before)
+choice-changes : (f : ℕ → ℕ) (xs : List Split) (t : Split) (n : ℕ) (c : Chosen) → IsLeastOf f xs c → n ≡ f t.test → (n < c.sum) ⊎ ((n ≡ c.sum) × (t.test ≤ c.split.test)) → IsLeastOf f (xs ++ t ∷ []) (record { split = t; sum = n })
+choice-changes f xs t n c h v before = record {
+  among = Contains-push xs t;
+  sum = v;
+  least = All-push (IsBefore f (record { split = t; sum = n })) xs t (All-weaker (IsBefore f c) (IsBefore f (record { split = t; sum = n })) earlier xs h.least) (inr (v, omega arith));
+}
   where
-    go : (o : Option Chosen) → ((x : Chosen) → o ≡ Some x → P x.split) → (let y : Chosen = lesser_choice o s n in P y.split)
-    go None before = here
-    go (Some y) before = by (nat_le y.sum n)
-      where
-        by : (b : Bool) → (let z : Chosen = cond b y (record { split = s; sum = n }) in P z.split)
-        by true = before y refl
-        by false = here
+    earlier : (s : Split) → IsBefore f c s → IsBefore f (record { split = t; sum = n }) s
+    earlier s (inl l) = elim before [ inl m ↦ inl (omega arith) | inr e ↦ (let e0 = e.0 in inl (omega arith)) ]
+    earlier s (inr k) = (let k0 = k.0 in let k1 = k.1 in elim before [ inl m ↦ inl (omega arith) | inr e ↦ (let e0 = e.0 in let e1 = e.1 in inr (omega arith, omega arith)) ])
+
+pub choice-more : (f : ℕ → ℕ) (xs more : List Split) (t : Split) (n : ℕ) (o : Option Chosen) → IsChoice f xs o → more ≡ xs ++ t ∷ [] → n ≡ f t.test → IsChoice f more (Some (lesser_choice o t n))
+choice-more f xs more t n None s e v = subst (λ l. IsLeastOf f l (record { split = t; sum = n })) (sym (e ∙ ap (λ l. l ++ t ∷ []) s)) (choice-one f t n v)
+choice-more f xs more t n (Some c) s e v = subst (λ l. IsLeastOf f l (lesser_choice (Some c) t n)) (sym e) (elim (cases_Bool (nat_lt c.sum n || (nat_eq c.sum n && nat_le c.split.test t.test))) [
+  | inl y ↦ rw y (choice-stays f xs t n c s v (is-before c.sum n c.split.test t.test y))
+  | inr o ↦ rw o (choice-changes f xs t n c s v (is-behind c.sum n c.split.test t.test o))
+])
 
 -- ---- some test splits a group of two goals ----
 
@@ -99,14 +91,6 @@ pub record IsFirst (f : ℕ → ℕ) (xs : List ℕ) (t : ℕ) : Type 0 where
 first_least-all : (f : ℕ → ℕ) (u : ℕ) (xs : List ℕ) → IsIn u xs → IsFirst f xs (first_least f xs)
 first_least-all f u [] i = absurd i
 first_least-all f u (x ∷ xs) i = record { among = first_least-in f x xs; least = first_least-is f x xs }
-
--- a list that is gone through with no choice has no test
-pub chosen-none : (f : ℕ → ℕ) (u : ℕ) (xs : List ℕ) → IsIn u xs → ChosenSoFar f xs None → ⊥
-chosen-none f u [] i s = i
-chosen-none f u (x ∷ xs) i s = none_some s.chosen s.is
-  where
-    none_some : (c : Chosen) → None ≡ Some c → ⊥
-    none_some c e = cc
 
 module _ (p : Problem) where
   some-splits : (group : List ℕ) → AreTold p → IsWithin p group → is_end p group ≡ false → (t : ℕ) × IsIn t (splitting p group)

@@ -6,7 +6,8 @@ use Rattle.std.proofs.lemmas.Bool.{cases_Bool, eqb-true, true≢false}
 use Rattle.std.proofs.lemmas.List.{get_or-set_same, length-map}
 use Rattle.std.proofs.lemmas.Option.{slice_get_within}
 use Rattle.std.proofs.Math.ListN.{length-set}
-use Rattle.seq_theory.specs.Problem.{Problem, is_end, splitting, pass_part, fail_part}
+use Rattle.seq_theory.specs.Problem.{Problem, is_end, pass_part, fail_part}
+use Rattle.seq_theory.specs.Greedy.{greedy_cost}
 use Rattle.seq_theory.specs.Bound.{bound, step_sum}
 use Rattle.seq_theory.specs.Graph.{is_entered, IsReal, same_group}
 use Rattle.seq_theory.specs.Rows.{Row as PlainRow, no_value, groups_of, row_of, low_or, up_or, known_low}
@@ -17,24 +18,23 @@ use Rattle.seq_inst.specs.declared.outcome.Row.{Row}
 use Rattle.seq_inst.specs.Members.{members}
 use Rattle.seq_inst.specs.Instances.{problem_of}
 use Rattle.seq_core.specs.declared.kept.Kept.{Kept}
-use Rattle.seq_core.specs.KeptOf.{IsKeptOf, HasParts}
+use Rattle.seq_core.specs.KeptOf.{IsKeptOf, AreTestsOf, KeepsTests}
 use Rattle.seq_core.specs.Numbered.{Numbered, HasNumber, AreNumbers, KeepsNumbers}
 use Rattle.seq_core.specs.RowsOf.{row_of as row_from, rows_of as rows_from, place_in}
 use Rattle.seq_core.specs.Settled.{value_or}
 use Rattle.seq_solo.specs.declared.search.Count.{Count}
-use Rattle.seq_solo.specs.Known.{AreKnown, count_of, no_row, row_at, group_at, raised_at, capped_at, narrowed_at, IsKeptBy}
+use Rattle.seq_solo.specs.Known.{AreRows, AreKept, AreKnown, count_of, no_row, row_at, group_at, raised_at, capped_at, narrowed_at, IsKeptBy}
 use Rattle.seq_solo.specs.Counts.{new_count, count_at}
-use Rattle.seq_solo.proofs.KnownLaws.{row-real}
+use Rattle.seq_solo.proofs.KnownLaws.{row-real, bound-le-known_low}
 use Rattle.seq_solo.proofs.PlaceLaws.{place-found, place-none, row-at-place, absent-row, absent-place, set-places, set-others, more-others, more-other-places, more-row, more-place}
 use Rattle.seq_solo.proofs.NumberLaws.{map-changed, map-later, number-once}
 use Rattle.seq_solo.proofs.CountLaws.{kept-read, count-at, countable, counted-is}
 use Rattle.seq_solo.proofs.EventLaws.{IsRefreshed, entered-known, length-Narrows, group-Narrows, up-Narrows}
 use Rattle.seq_theory.proofs.RowLaws.{same_group-true, same_group-refl}
 use Rattle.seq_core.specs.declared.kept.Split.{Split}
-use Rattle.seq_solo.specs.Thinned.{counted_sum, IsCountable, IsThinned}
-use Rattle.seq_solo.proofs.ThinLaws.{thinned-none, thinned-rises, thinned-more}
-use Rattle.seq_solo.proofs.SplitLaws.{split-at, tests-filter}
-use Rattle.std.proofs.lemmas.List.Elements.{All-filter}
+use Rattle.seq_solo.specs.Sums.{counted_sum, IsCountable}
+use Rattle.seq_solo.proofs.CoverLaws.{tests-rise, tests-keep, tests-left}
+use Rattle.seq_solo.proofs.SplitLaws.{split-at}
 
 -- ---- what a row gives ----
 
@@ -69,9 +69,8 @@ kept-narrows p v rows now r s k e rises falls kept = subst (λ (g : Group). IsKe
   weight = kept.weight;
   bound_is = kept.bound_is;
   greedy = kept.greedy;
-  tests = thinned-rises (step_sum p (known_low p (rows_from rows)) (members r.group)) (step_sum p (known_low p (rows_from now)) (members r.group)) r.up s.up (splitting p (members r.group)) (map (λ t. t.test) k.splits.items) kept.tests
+  tests = tests-rise p (members r.group) k.splits.items k.waiting.items v (step_sum p (known_low p (rows_from rows)) (members r.group)) (step_sum p (known_low p (rows_from now)) (members r.group)) r.up s.up kept.tests
       (λ t. let a = rises (pass_part p t (members r.group)) in let b = rises (fail_part p t (members r.group)) in omega arith) falls;
-  parts = kept.parts;
 })
 
 -- and while more groups get numbers
@@ -81,19 +80,18 @@ kept-keeps p old new rows r k keeps h = record {
   weight = h.weight;
   bound_is = h.bound_is;
   greedy = h.greedy;
-  tests = h.tests;
-  parts = λ i d lt. let a = h.parts i d lt in record { passing = keeps _ _ a.passing; failing = keeps _ _ a.failing };
+  tests = tests-keep p (members r.group) k.splits.items k.waiting.items old new (step_sum p (known_low p (rows_from rows)) (members r.group)) r.up keeps h.tests;
 }
 
--- at first no test is left out
-kept-whole : (p : Problem) (v : Numbered) (rows : List Row) (r : Row) (k : Kept) → IsKeptOf p v (members r.group) k → IsKeptBy p v rows r k
-kept-whole p v rows r k h = record {
+-- at first those are left out that greedy is below, and this is a cap of the new row. Lows are no less than bounds
+kept-whole : (p : Problem) (v : Numbered) (rows : List Row) (r : Row) (k : Kept) → AreRows p rows → r.up ≤ greedy_cost p (members r.group) → IsKeptOf p v (members r.group) k → IsKeptBy p v rows r k
+kept-whole p v rows r k known falls h = record {
   number = h.number;
   weight = h.weight;
   bound_is = h.bound;
   greedy = h.greedy;
-  tests = thinned-none (step_sum p (known_low p (rows_from rows)) (members r.group)) r.up (splitting p (members r.group)) (map (λ t. t.test) k.splits.items) h.tests;
-  parts = h.parts;
+  tests = tests-rise p (members r.group) k.splits.items k.waiting.items v (step_sum p (bound p) (members r.group)) (step_sum p (known_low p (rows_from rows)) (members r.group)) (greedy_cost p (members r.group)) r.up h.tests
+      (λ t. let a = bound-le-known_low p rows known (pass_part p t (members r.group)) in let b = bound-le-known_low p rows known (fail_part p t (members r.group)) in omega arith) falls;
 }
 
 kept-more : (P : Row → Kept → Type 0) (rows : List Row) (kept : List Kept) (r : Row) (k : Kept) → length kept ≡ length rows
@@ -113,6 +111,17 @@ get-set (z ∷ xs) zero x (suc q) y e = inr e
 get-set (z ∷ xs) (suc k) x zero y e = inr e
 get-set (z ∷ xs) (suc k) x (suc q) y e = elim (get-set xs k x q y e) [ inl s ↦ inl (ap suc s.0, s.1) | inr o ↦ inr o ]
 
+-- one that is kept gives way to another that is right too
+replaced-kept : (p : Problem) (v : Numbered) (rows : List Row) (kept : List Kept) (place : ℕ) (other : Kept) → length kept ≡ length rows
+    → ((q : ℕ) (x : Kept) → slice_get kept q ≡ Some x → IsKeptBy p v rows (row_at rows q) x) → IsKeptBy p v rows (row_at rows place) other → AreKept p v rows (set kept place other)
+replaced-kept p v rows kept place other l all here = record {
+  as_many = length-set kept place other ∙ l;
+  each = λ q x e. elim (get-set kept place other q x e) [
+    | inl s ↦ subst (λ n. IsKeptBy p v rows (row_at rows n) x) (sym s.0) (subst (IsKeptBy p v rows (row_at rows place)) s.1 here)
+    | inr o ↦ all q x o
+  ];
+}
+
 -- a low that counts no less
 low-cases : (p : Problem) (rows now : List Row) (g : List ℕ) → ((h : List ℕ) → h ≢ g → count_of p now h ≡ count_of p rows h) → known_low p (rows_from rows) g ≤ known_low p (rows_from now) g
     → (h : List ℕ) → known_low p (rows_from rows) h ≤ known_low p (rows_from now) h
@@ -124,7 +133,7 @@ low-cases p rows now g others here h = elim (cases_Bool (same_group h g)) [
 -- ---- a row is narrowed ----
 
 module _ (inst : Instance) (v : Numbered) (rows : List Row) (kept : List Kept) (counts : List Count) (known : AreKnown (problem_of inst) v rows kept counts) (place : ℕ) (lt : place < length rows) (k : Kept)
-    (read : k ≡ get_or kept place k) (low up : ℕ) (narrowed : IsRefreshed (problem_of inst) rows (capped_at (raised_at rows place low) place up) place) where
+    (read : k ≡ get_or kept place k) (low up : ℕ) (narrowed : IsRefreshed (problem_of inst) rows (capped_at (raised_at rows place low) place up) place low up) where
   now : List Row
   now = capped_at (raised_at rows place low) place up
 
@@ -240,35 +249,56 @@ module _ (inst : Instance) (old new : Numbered) (rows : List Row) (kept : List K
 
   pub added-known : (g : Group) (k : Kept) (more : List Count) (place : ℕ) → IsReal (problem_of inst) (members g) → is_entered (groups_of (rows_from rows)) (members g) ≡ false
       → IsKeptOf (problem_of inst) new (members g) k → more ≡ counts ++ map (new_count (problem_of inst)) (drop (length counts) new.groups) → place ≡ length rows
-      → AreKnown (problem_of inst) new (rows ++ record { group = g; low = 0; up = no_value } ∷ []) (kept ++ k ∷ []) (set more k.number (record (count_at more k.number) { place = Some place }))
+      → AreKnown (problem_of inst) new (rows ++ record { group = g; low = 0; up = k.greedy } ∷ []) (kept ++ k ∷ []) (set more k.number (record (count_at more k.number) { up = k.greedy; place = Some place }))
   added-known g k more place real absent of grown place_is =
       let p = problem_of inst in
       let f = count_of p rows in
-      let row : Row = record { group = g; low = 0; up = no_value } in
+      let row : Row = record { group = g; low = 0; up = k.greedy } in
       let now = count_of p (rows ++ row ∷ []) in
       let l = known.kept_are.as_many in
       let counted = counts-grown more grown in
       let none = absent-row rows (members g) absent in
       let here : count_at more k.number ≡ f (members g) = ap (λ c. count_at c k.number) counted ∙ count-at f new.groups k.number (members g) of.number in
-      let old_count : f (members g) ≡ new_count p (members g) = count-none p rows (members g) none in
-      let new_is : now (members g) ≡ record { low = max 0 (bound p (members g)); up = no_value; place = Some (length rows) } = count-row p (rows ++ row ∷ []) (members g) (row_from row) (Some (length rows)) real.goals (more-row rows row absent) (more-place rows row absent) in
-      let old_is : f (members g) ≡ record { low = bound p (members g); up = no_value; place = None } = old_count ∙ ap (λ b. record { low = bound p (members g); up = cond b 0 no_value; place = None }) real.goals in
+      let old_is : f (members g) ≡ new_count p (members g) = count-none p rows (members g) none in
+      let new_is : now (members g) ≡ record { low = max 0 (bound p (members g)); up = k.greedy; place = Some (length rows) } = count-row p (rows ++ row ∷ []) (members g) (row_from row) (Some (length rows)) real.goals (more-row rows row absent) (more-place rows row absent) in
       let others = λ (h : List ℕ) (ne : h ≢ members g). count-same p (rows ++ row ∷ []) rows h (more-others rows row h ne) (more-other-places rows row h ne) in
       let larger : bound p (members g) ≡ max 0 (bound p (members g)) = omega arith in
-      let placed : record (count_at more k.number) { place = Some place } ≡ now (members g) =
-      ap (λ (c : Count). record c { place = Some place }) (here ∙ old_is) ∙ ap (λ n. record { low = bound p (members g); up = no_value; place = Some n }) place_is ∙ ap (λ n. record { low = n; up = no_value; place = Some (length rows) }) larger ∙ sym new_is in
+      let placed : record (count_at more k.number) { up = k.greedy; place = Some place } ≡ now (members g) =
+      ap (λ (c : Count). record c { up = k.greedy; place = Some place }) (here ∙ old_is) ∙ ap (λ n. record { low = bound p (members g); up = k.greedy; place = Some n }) place_is ∙ ap (λ n. record { low = n; up = k.greedy; place = Some (length rows) }) larger ∙ sym new_is in
+      let entered = entered-known inst rows g k.greedy known.rows_are real absent of.greedy in
       record {
-        rows_are = entered-known inst rows g known.rows_are real absent;
+        rows_are = entered;
         numbers_are = numbers;
         kept_are = record {
           as_many = (let a = length-append kept (k ∷ []) in let b = length-append rows (row ∷ []) in omega arith);
           each = kept-more (λ r x. IsKeptBy p new (rows ++ row ∷ []) r x) rows kept row k l
               (λ q x e. kept-narrows p new rows (rows ++ row ∷ []) (row_at rows q) (row_at rows q) x refl
               (low-cases p rows (rows ++ row ∷ []) (members g) others (let a = ap (λ (c : Count). c.low) old_is in let b = ap (λ (c : Count). c.low) new_is in omega arith)) (omega arith) (kept-keeps p old new rows (row_at rows q) x keeps (known.kept_are.each q x e)))
-              (kept-whole p new (rows ++ row ∷ []) row k of);
+              (kept-whole p new (rows ++ row ∷ []) row k entered (let e = of.greedy in omega arith) of);
         };
         counts_are = ap (λ c. set more k.number c) placed ∙ ap (λ c. set c k.number (now (members g))) counted
             ∙ sym (map-changed f now new.groups k.number (members g) numbers.distinct of.number others);
+      }
+
+  -- a test of a group is evaluated
+  pub evaluated-known : (place : ℕ) (k other : Kept) (more : List Count) → place < length rows → k ≡ get_or kept place k → other.number ≡ k.number → other.weight ≡ k.weight → other.bound ≡ k.bound → other.greedy ≡ k.greedy
+      → KeepsTests (problem_of inst) old new (members (group_at rows place)) k other → more ≡ counts ++ map (new_count (problem_of inst)) (drop (length counts) new.groups)
+      → AreKnown (problem_of inst) new rows (set kept place other) more
+  evaluated-known place k other more lt read en ew eb eg tests grown =
+      let p = problem_of inst in
+      let r = row_at rows place in
+      let of = kept-read p old rows kept counts known place k lt read in
+      record {
+        rows_are = known.rows_are;
+        numbers_are = numbers;
+        kept_are = replaced-kept p new rows kept place other known.kept_are.as_many (λ q x e. kept-keeps p old new rows (row_at rows q) x keeps (known.kept_are.each q x e)) (record {
+          number = subst (HasNumber new (members r.group)) (sym en) (keeps (members r.group) k.number of.number);
+          weight = ew ∙ of.weight;
+          bound_is = eb ∙ of.bound_is;
+          greedy = eg ∙ of.greedy;
+          tests = tests (step_sum p (known_low p (rows_from rows)) (members r.group)) r.up of.tests;
+        });
+        counts_are = counts-grown more grown;
       }
 
 -- ---- tests are left out ----
@@ -283,44 +313,36 @@ module _ (inst : Instance) (v : Numbered) (rows : List Row) (kept : List Kept) (
       let at = split-at (problem_of inst) v rows (row_at rows place) k k.splits.items of-row refl i d h in
       countable inst v rows kept counts known place lt (get_or k.splits.items i d) k at.parts at.there read
 
-  -- the kept one gives way to another that is right too
   replaced : (other : Kept) → IsKeptBy (problem_of inst) v rows (row_at rows place) other → AreKnown (problem_of inst) v rows (set kept place other) counts
   replaced other here = record {
     rows_are = known.rows_are;
     numbers_are = known.numbers_are;
-    kept_are = record {
-      as_many = length-set kept place other ∙ known.kept_are.as_many;
-      each = λ q x e. elim (get-set kept place other q x e) [
-        | inl s ↦ subst (λ n. IsKeptBy (problem_of inst) v rows (row_at rows n) x) (sym s.0) (subst (IsKeptBy (problem_of inst) v rows (row_at rows place)) s.1 here)
-        | inr o ↦ known.kept_are.each q x o
-      ];
-    };
+    kept_are = replaced-kept (problem_of inst) v rows kept place other known.kept_are.as_many known.kept_are.each here;
     counts_are = known.counts_are;
   }
 
   pub thinned-known : (thin : Kept) (up : ℕ) → up ≡ (row_at rows place).up → thin.number ≡ k.number → thin.weight ≡ k.weight → thin.bound ≡ k.bound → thin.greedy ≡ k.greedy
-      → thin.splits.items ≡ filter (λ s. nat_le (counted_sum inst.costs.items k.weight counts s) up) k.splits.items → AreKnown (problem_of inst) v rows (set kept place thin) counts
-  thinned-known thin up up_is en ew eb eg splits_are =
+      → thin.splits.items ≡ filter (λ s. nat_le (counted_sum inst.costs.items k.weight counts s) up) k.splits.items → thin.waiting.items ≡ filter (λ w. nat_le w.least up) k.waiting.items → AreKnown (problem_of inst) v rows (set kept place thin) counts
+  thinned-known thin up up_is en ew eb eg splits_are waiting_are =
       let p = problem_of inst in
       let r = row_at rows place in
       let g = members r.group in
       let f = step_sum p (known_low p (rows_from rows)) g in
       let stays = λ (s : Split). nat_le (counted_sum inst.costs.items k.weight counts s) up in
-      let tests = ap (map (λ (s : Split). s.test)) splits_are ∙ tests-filter stays (λ t. nat_le (f t) up) k.splits.items (λ i d h.
-      let at = split-at p v rows r k k.splits.items of-row refl i d h in
-      ap (λ n. nat_le n up) (counted-is inst v rows kept counts known place lt (get_or k.splits.items i d) k at.parts read)) in
       replaced thin (record {
         number = subst (HasNumber v g) (sym en) of-row.number;
         weight = ew ∙ of-row.weight;
         bound_is = eb ∙ of-row.bound_is;
         greedy = eg ∙ of-row.greedy;
-        tests = thinned-more f r.up (splitting p g) (map (λ (s : Split). s.test) k.splits.items) (map (λ (s : Split). s.test) thin.splits.items) of-row.tests (tests ∙ ap (λ n. filter (λ t. nat_le (f t) n) (map (λ (s : Split). s.test) k.splits.items)) up_is);
-        parts = subst (All (HasParts p v g)) (sym splits_are) (All-filter stays (HasParts p v g) k.splits.items of-row.parts);
+        tests = subst (λ n. AreTestsOf p v g f n thin.splits.items thin.waiting.items) up_is
+            (tests-left p v g f up k.splits.items thin.splits.items k.waiting.items thin.waiting.items stays (subst (λ n. AreTestsOf p v g f n k.splits.items k.waiting.items) (sym up_is) of-row.tests) (λ i d h.
+            let at = split-at p v rows r k k.splits.items of-row refl i d h in
+            ap (λ n. nat_le n up) (counted-is inst v rows kept counts known place lt (get_or k.splits.items i d) k at.parts read)) splits_are waiting_are);
       })
 
-  -- the same tests in a list of less room
-  pub fitted-known : (fit : Kept) → fit.number ≡ k.number → fit.weight ≡ k.weight → fit.bound ≡ k.bound → fit.greedy ≡ k.greedy → fit.splits.items ≡ k.splits.items → AreKnown (problem_of inst) v rows (set kept place fit) counts
-  fitted-known fit en ew eb eg splits_are =
+  -- the same tests in lists of less room
+  pub fitted-known : (fit : Kept) → fit.number ≡ k.number → fit.weight ≡ k.weight → fit.bound ≡ k.bound → fit.greedy ≡ k.greedy → fit.splits.items ≡ k.splits.items → fit.waiting.items ≡ k.waiting.items → AreKnown (problem_of inst) v rows (set kept place fit) counts
+  fitted-known fit en ew eb eg splits_are waiting_are =
       let p = problem_of inst in
       let r = row_at rows place in
       let g = members r.group in
@@ -330,6 +352,5 @@ module _ (inst : Instance) (v : Numbered) (rows : List Row) (kept : List Kept) (
         weight = ew ∙ of-row.weight;
         bound_is = eb ∙ of-row.bound_is;
         greedy = eg ∙ of-row.greedy;
-        tests = subst (λ l. IsThinned f r.up (splitting p g) (map (λ (s : Split). s.test) l)) (sym splits_are) of-row.tests;
-        parts = subst (All (HasParts p v g)) (sym splits_are) of-row.parts;
+        tests = subst (λ l. AreTestsOf p v g f r.up l fit.waiting.items) (sym splits_are) (subst (AreTestsOf p v g f r.up k.splits.items) (sym waiting_are) of-row.tests);
       })

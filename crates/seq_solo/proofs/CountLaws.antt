@@ -26,7 +26,7 @@ use Rattle.seq_solo.specs.Known.{AreRows, AreKnown, HasSmallUp, count_of, no_row
 use Rattle.seq_solo.proofs.KnownLaws.{IsLight, light-group, light-pass, light-fail, known_low-small, row-within, IsRowOf, row_of-found, known_low-le}
 use Rattle.seq_solo.proofs.ChoiceLaws.{sum-fits}
 use Rattle.seq_solo.specs.Counts.{no_count, count_at}
-use Rattle.seq_solo.specs.Thinned.{counted_sum, IsCountable}
+use Rattle.seq_solo.specs.Sums.{counted_sum, IsCountable}
 use Rattle.seq_theory.proofs.GreedyLaws.{part-within}
 use Rattle.seq_theory.proofs.LeastLaws.{least}
 use Rattle.seq_theory.proofs.LowLaws.{low-le-least}

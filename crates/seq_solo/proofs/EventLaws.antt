@@ -9,8 +9,8 @@ use Rattle.std.proofs.Math.ListN.{length-set}
 use Rattle.seq_theory.specs.Problem.{Problem, is_end, splitting, least_of, pass_part, fail_part, weight_of}
 use Rattle.seq_theory.specs.Greedy.{greedy_cost}
 use Rattle.seq_theory.specs.Graph.{same_group, is_entered, step_value, sum_with, IsReal}
-use Rattle.seq_theory.specs.Rows.{Row as PlainRow, no_value, groups_of, IsSound, row_of, up_or, known_up, most_low, least_up, enter, raise, cap, after}
-use Rattle.seq_theory.proofs.RowLaws.{events-sound}
+use Rattle.seq_theory.specs.Rows.{Row as PlainRow, no_value, groups_of, IsSound, row_of, up_or, known_up, most_low, least_up, enter, raise, cap, after, change_at}
+use Rattle.seq_theory.proofs.RowLaws.{events-sound, wanted-within}
 use Rattle.seq_theory.proofs.PartsRecursion.{filter_map-agree}
 use Rattle.seq_huff.specs.Bounds.{greatest_cost}
 use Rattle.seq_huff.proofs.LeastBounds.{weighed}
@@ -122,14 +122,14 @@ length-from (r ∷ rest) = ap suc (length-from rest)
 -- ---- refreshing one row ----
 
 -- what the code owes where it raises a row to low, and then caps it to up
-pub record IsRefreshed (p : Problem) (old new : List Row) (k : ℕ) : Type 0 where
+pub record IsRefreshed (p : Problem) (old new : List Row) (k low up : ℕ) : Type 0 where
   pub known : AreRows p new
   pub narrows : Narrows old new
-  pub closes : least_up p (rows_from old) (members (group_at old k)) ≤ most_low p (rows_from old) (members (group_at old k)) → IsClosedAt new k
+  pub closes : up ≤ low → IsClosedAt new k
 
 module _ (inst : Instance) (rows : List Row) (k low up : ℕ) (known : AreRows (problem_of inst) rows) (lt : k < length rows)
     (low_is : low ≡ most_low (problem_of inst) (rows_from rows) (members (group_at rows k)))
-    (up_is : up ≡ least_up (problem_of inst) (rows_from rows) (members (group_at rows k)))
+    (up_is : least_up (problem_of inst) (rows_from rows) (members (group_at rows k)) ≤ up)
     (small : up ≤ greatest_cost) where
   raised-long : length (raised_at rows k low) ≡ length rows
   raised-long = length-set rows k _
@@ -145,8 +145,8 @@ module _ (inst : Instance) (rows : List Row) (k low up : ℕ) (known : AreRows (
   capped-sound : IsSound (problem_of inst) (length rows) (rows_from (capped_at (raised_at rows k low) k up))
   capped-sound =
       let lt2 : k < length (raised_at rows k low) = (let l = raised-long in omega arith) in
-      let same : least_up (problem_of inst) (rows_from (raised_at rows k low)) (members (group_at rows k)) ≡ up =
-      ap (λ l. least_up (problem_of inst) l (members (group_at rows k))) (raised-from rows k low lt) ∙ least_up-raised (problem_of inst) (rows_from rows) k low (members (group_at rows k)) ∙ sym up_is in
+      let same : least_up (problem_of inst) (rows_from (raised_at rows k low)) (members (group_at rows k)) ≡ least_up (problem_of inst) (rows_from rows) (members (group_at rows k)) =
+      ap (λ l. least_up (problem_of inst) l (members (group_at rows k))) (raised-from rows k low lt) ∙ least_up-raised (problem_of inst) (rows_from rows) k low (members (group_at rows k)) in
       subst (IsSound (problem_of inst) (length rows)) (sym (capped-from (raised_at rows k low) k up lt2))
       (events-sound (problem_of inst) (length rows) (rows_from (raised_at rows k low)) (cap k up ∷ []) (sized inst) inst.valid.told raised-sound (
         (
@@ -171,8 +171,8 @@ module _ (inst : Instance) (rows : List Row) (k low up : ℕ) (known : AreRows (
         small = All-set HasSmallUp (raised_at rows k low) k _ (inr (let m : min (row_at (raised_at rows k low) k).up up ≤ greatest_cost = omega arith in m)) (All-set HasSmallUp rows k _ (known.small k no_row lt) known.small);
       }
 
-  pub is-refreshed : (new : List Row) → new ≡ capped_at (raised_at rows k low) k up → IsRefreshed (problem_of inst) rows new k
-  is-refreshed new is = subst (λ l. IsRefreshed (problem_of inst) rows l k) (sym is)
+  pub is-refreshed : (new : List Row) → new ≡ capped_at (raised_at rows k low) k up → IsRefreshed (problem_of inst) rows new k low up
+  is-refreshed new is = subst (λ l. IsRefreshed (problem_of inst) rows l k low up) (sym is)
       (let lt2 : k < length (raised_at rows k low) = (let l = raised-long in omega arith) in
       record {
         known = capped-known;
@@ -186,32 +186,67 @@ module _ (inst : Instance) (rows : List Row) (k low up : ℕ) (known : AreRows (
 
 -- ---- entering a group ----
 
-pub entered-known : (inst : Instance) (rows : List Row) (g : Group) → AreRows (problem_of inst) rows → IsReal (problem_of inst) (members g) → is_entered (groups_of (rows_from rows)) (members g) ≡ false
-    → AreRows (problem_of inst) (rows ++ record { group = g; low = 0; up = no_value } ∷ [])
-entered-known inst rows g known real new =
+change-last : (rows : List PlainRow) (r : PlainRow) (f : PlainRow → PlainRow) → change_at (rows ++ r ∷ []) (length rows) f ≡ rows ++ f r ∷ []
+change-last [] r f = refl
+change-last (s ∷ rest) r f = ap (λ l. s ∷ l) (change-last rest r f)
+
+get-last : (rows : List PlainRow) (r : PlainRow) → slice_get (rows ++ r ∷ []) (length rows) ≡ Some r
+get-last [] r = refl
+get-last (s ∷ rest) r = get-last rest r
+
+-- a group that is entered is capped at once by what greedy costs
+pub entered-known : (inst : Instance) (rows : List Row) (g : Group) (up : ℕ) → AreRows (problem_of inst) rows → IsReal (problem_of inst) (members g) → is_entered (groups_of (rows_from rows)) (members g) ≡ false → up ≡ greedy_cost (problem_of inst) (members g)
+    → AreRows (problem_of inst) (rows ++ record { group = g; low = 0; up = up } ∷ [])
+entered-known inst rows g up known real new up_is =
     let p = problem_of inst in
-    let row : Row = record { group = g; low = 0; up = no_value } in
+    let row : Row = record { group = g; low = 0; up = up } in
+    let fresh : PlainRow = record { group = members g; low = 0; up = no_value } in
     let long = length-append rows (row ∷ []) in
     let more = length-from rows in
+    let small = greedy-small inst g (wanted-within p (members g) real.wanted) in
+    let first = least_of-first (greedy_cost p (members g)) (filter_map (step_value p (known_up p (rows_from rows ++ fresh ∷ [])) (members g)) (splitting p (members g))) in
+    let least : min no_value up ≡ up = omega arith in
+    let same : rows_from (rows ++ row ∷ []) ≡ change_at (rows_from rows ++ fresh ∷ []) (length (rows_from rows)) (λ r. record { group = r.group; low = r.low; up = min r.up up }) =
+    map-append row_from rows (row ∷ []) ∙ ap (λ n. rows_from rows ++ record { group = members g; low = 0; up = n } ∷ []) (sym least) ∙ sym (change-last (rows_from rows) fresh (λ r. record { group = r.group; low = r.low; up = min r.up up })) in
     record {
-      sound = subst (IsSound p (length (rows ++ row ∷ []))) (sym (map-append row_from rows (row ∷ [])))
-          (events-sound p (length (rows ++ row ∷ [])) (rows_from rows) (enter (members g) ∷ []) (sized inst) inst.valid.told (sound-more p (length rows) (length (rows ++ row ∷ [])) (rows_from rows) (omega arith) known.sound)
-          ((real, new, omega arith), tt));
-      small = All-push HasSmallUp rows row known.small (inl refl);
+      sound = subst (IsSound p (length (rows ++ row ∷ []))) (sym same)
+          (events-sound p (length (rows ++ row ∷ [])) (rows_from rows) (enter (members g) ∷ cap (length (rows_from rows)) up ∷ []) (sized inst) inst.valid.told (sound-more p (length rows) (length (rows ++ row ∷ [])) (rows_from rows) (omega arith) known.sound)
+          ((real, new, omega arith), ((fresh, get-last (rows_from rows) fresh, omega arith), tt)));
+      small = All-push HasSmallUp rows row known.small (inr (let s : up ≤ greatest_cost = omega arith in s));
     }
 
--- in the words of the code, which caps by the lesser of the row's own up and what is allowed
+pub Narrows-last : (rows : List Row) (r s : Row) → s.group ≡ r.group → r.low ≤ s.low → s.up ≤ r.up → Narrows (rows ++ r ∷ []) (rows ++ s ∷ [])
+Narrows-last [] r s g l u = (g, l, u, tt)
+Narrows-last (x ∷ rest) r s g l u = (refl, omega arith, omega arith, Narrows-last rest r s g l u)
+
+-- in the words of the code, which may cap to less than the rows allow where this is no less than the row's own up
 pub refresh-holds : (inst : Instance) (rows raised new : List Row) (k low up : ℕ) → AreRows (problem_of inst) rows → k < length rows
     → low ≡ most_low (problem_of inst) (rows_from rows) (members (group_at rows k))
-    → up ≡ min (row_at rows k).up (least_up (problem_of inst) (rows_from rows) (members (group_at rows k)))
-    → raised ≡ raised_at rows k low → new ≡ capped_at raised k up → IsRefreshed (problem_of inst) rows new k
-refresh-holds inst rows raised new k low up known lt low_is up_is raised_is new_is =
+    → min (row_at rows k).up (least_up (problem_of inst) (rows_from rows) (members (group_at rows k))) ≤ up → up ≤ greedy_cost (problem_of inst) (members (group_at rows k))
+    → raised ≡ raised_at rows k low → new ≡ capped_at raised k up → IsRefreshed (problem_of inst) rows new k low up
+refresh-holds inst rows raised new k low up known lt low_is above below raised_is new_is =
     let p = problem_of inst in
     let g = members (group_at rows k) in
     let least = least_up p (rows_from rows) g in
+    let to = max up least in
     let small = greedy-small inst (group_at rows k) (row-within p rows known k lt) in
     let first = least_of-first (greedy_cost p g) (filter_map (step_value p (known_up p (rows_from rows)) g) (splitting p g)) in
     let row : row_at (raised_at rows k low) k ≡ record (row_at rows k) { low = max (row_at rows k).low low } = get_or-set_same rows k _ no_row lt in
-    let both : min (row_at (raised_at rows k low) k).up up ≡ min (row_at (raised_at rows k low) k).up least = (let e = ap (λ (r : Row). r.up) row in omega arith) in
-    let same : capped_at (raised_at rows k low) k up ≡ capped_at (raised_at rows k low) k least = ap (λ n. set (raised_at rows k low) k (record (row_at (raised_at rows k low) k) { up = n })) both in
-    is-refreshed inst rows k low least known lt low_is refl (omega arith) new (new_is ∙ ap (λ l. capped_at l k up) raised_is ∙ same)
+    let both : min (row_at (raised_at rows k low) k).up up ≡ min (row_at (raised_at rows k low) k).up to = (let e = ap (λ (r : Row). r.up) row in omega arith) in
+    let same : capped_at (raised_at rows k low) k up ≡ capped_at (raised_at rows k low) k to = ap (λ n. set (raised_at rows k low) k (record (row_at (raised_at rows k low) k) { up = n })) both in
+    let done : IsRefreshed p rows new k low to = is-refreshed inst rows k low to known lt low_is (omega arith) (omega arith) new (new_is ∙ ap (λ l. capped_at l k up) raised_is ∙ same) in
+    let long : length new ≡ length rows = length-Narrows rows new done.narrows in
+    record {
+      known = done.known;
+      narrows = done.narrows;
+      closes = λ le.
+          let is : row_at new k ≡ record { group = group_at rows k; low = max (row_at rows k).low low; up = min (row_at rows k).up to } =
+          ap (λ l. row_at l k) (new_is ∙ ap (λ l. capped_at l k up) raised_is ∙ same) ∙ get_or-set_same (raised_at rows k low) k _ no_row (let l = length-set rows k (record (row_at rows k) { low = max (row_at rows k).low low }) in omega arith) ∙ ap (λ (r : Row). record r { up = min r.up to }) row in
+          let b = row-bounds p new done.known (weighed inst) inst.valid.told k (omega arith) in
+          let b0 = b.0 in
+          let b1 = b.1 in
+          let el : (row_at new k).low ≡ max (row_at rows k).low low = ap (λ (r : Row). r.low) is in
+          let eu : (row_at new k).up ≡ min (row_at rows k).up to = ap (λ (r : Row). r.up) is in
+          let ebu : min (row_at rows k).up up ≡ min (row_at rows k).up to = omega arith in
+          omega arith;
+    }

@@ -5,8 +5,11 @@ pub mod CountLaws
 pub mod CountChanges
 pub mod SplitLaws
 pub mod ChoiceLaws
-pub mod ThinLaws
+pub mod CoverLaws
+pub mod CapLaws
+pub mod WaitingLaws
 pub mod EventLaws
+pub mod TightenLaws
 pub mod OpenLaws
 pub mod StepLaws
 pub mod FoundLaws

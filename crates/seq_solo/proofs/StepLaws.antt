@@ -6,12 +6,12 @@ use Rattle.std.proofs.lemmas.Bool.{cases_Bool}
 use Rattle.seq_theory.specs.Problem.{Problem, IsWithin, is_end, splitting, pass_part, fail_part}
 use Rattle.seq_theory.specs.Bound.{bound, step_sum}
 use Rattle.seq_theory.specs.Graph.{part, IsWanted}
-use Rattle.seq_theory.specs.Rows.{no_value, groups_of, row_of, known_low, known_up, most_low, least_up}
+use Rattle.seq_theory.specs.Rows.{no_value, groups_of, row_of, known_low, known_up}
 use Rattle.seq_theory.proofs.GreedyLaws.{bound-le-least}
 use Rattle.seq_theory.proofs.GroupLaws.{pass_part_smaller, fail_part_smaller}
 use Rattle.seq_theory.proofs.PartsRecursion.{splitting-splits, splitting-there}
 use Rattle.seq_theory.proofs.LowLaws.{low-le-least}
-use Rattle.seq_theory.proofs.WantedLaws.{walk-wanted, closing}
+use Rattle.seq_theory.proofs.WantedLaws.{walk-wanted}
 use Rattle.seq_huff.proofs.LeastBounds.{weighed}
 use Rattle.seq_inst.specs.declared.group.Group.{Group}
 use Rattle.seq_inst.specs.declared.instance.Instance.{Instance}
@@ -28,7 +28,7 @@ use Rattle.seq_core.specs.Settled.{value_or}
 use Rattle.seq_solo.specs.declared.search.Count.{Count}
 use Rattle.seq_solo.specs.Known.{AreRows, AreKnown, count_of, row_at, group_at, Narrows, IsClosedAt}
 use Rattle.seq_solo.specs.Parts.{IsUnknown, IsOpenAt, IsKnowledge}
-use Rattle.seq_solo.specs.Steps.{IsNew, IsOpenBelow, IsStep, step_by}
+use Rattle.seq_solo.specs.Steps.{IsNew, IsOpenBelow, IsStep, ClosesBelow, least_test, step_by}
 use Rattle.seq_solo.specs.Walks.{HasMoved, HasTurned}
 use Rattle.seq_solo.proofs.KnownLaws.{IsLight, light-group, known_low-small, known_low-le, bound-le-known_low, row-real, row-within, row-bounds}
 use Rattle.seq_solo.proofs.PlaceLaws.{IsPlaced, place-found, place-none}
@@ -157,34 +157,31 @@ module _ (inst : Instance) (rows : List Row) (known : AreRows (problem_of inst) 
     apart = at.apart;
   }
 
-  pub closes : (place t : ℕ) (pass fail : Group)
-      → IsFirst (step_sum (problem_of inst) (known_low (problem_of inst) (rows_from rows)) (members (group_at rows place))) (splitting (problem_of inst) (members (group_at rows place))) t
+  closes : (place t : ℕ) (pass fail : Group) → t ≡ least_test (problem_of inst) rows (members (group_at rows place))
       → members pass ≡ pass_part (problem_of inst) t (members (group_at rows place)) → members fail ≡ fail_part (problem_of inst) t (members (group_at rows place))
-      → known_up (problem_of inst) (rows_from rows) (members pass) ≡ Some (known_low (problem_of inst) (rows_from rows) (members pass))
-      → known_up (problem_of inst) (rows_from rows) (members fail) ≡ Some (known_low (problem_of inst) (rows_from rows) (members fail))
-      → least_up (problem_of inst) (rows_from rows) (members (group_at rows place)) ≤ most_low (problem_of inst) (rows_from rows) (members (group_at rows place))
-  closes place t pass fail first ep ef cp cf =
+      → IsKnowledge (problem_of inst) rows (members pass) Closed → IsKnowledge (problem_of inst) rows (members fail) Closed
+      → ClosesBelow (problem_of inst) rows (members (group_at rows place))
+  closes place t pass fail is ep ef cp cf =
       let p = problem_of inst in
-      let counts = λ (x : List ℕ). known_up p (rows_from rows) x ≡ Some (known_low p (rows_from rows) x) in
-      let f = closing p (rows_from rows) (members (group_at rows place)) t (splitting-there p (members (group_at rows place)) t first.among) (splitting-splits p (members (group_at rows place)) t first.among)
-      (subst counts ep cp) (subst counts ef cf) first.least in
-      let a = f.0 in
-      let b = f.1 in
-      omega arith
+      let g = members (group_at rows place) in
+      record {
+        passing = subst (λ n. IsKnowledge p rows (pass_part p n g) Closed) is (subst (λ x. IsKnowledge p rows x Closed) ep cp);
+        failing = subst (λ n. IsKnowledge p rows (fail_part p n g) Closed) is (subst (λ x. IsKnowledge p rows x Closed) ef cf);
+      }
 
   -- in the words of the code
-  pub step-holds : (place t : ℕ) (pass : Group) (kp : Knowledge) (fail : Group) (kf : Knowledge) → place < length rows
+  pub step-holds : (place t : ℕ) (pass : Group) (kp : Knowledge) (fail : Group) (kf : Knowledge) → place < length rows → t ≡ least_test (problem_of inst) rows (members (group_at rows place))
       → IsFirst (step_sum (problem_of inst) (known_low (problem_of inst) (rows_from rows)) (members (group_at rows place))) (splitting (problem_of inst) (members (group_at rows place))) t
       → members pass ≡ pass_part (problem_of inst) t (members (group_at rows place)) → members fail ≡ fail_part (problem_of inst) t (members (group_at rows place))
       → IsKnowledge (problem_of inst) rows (members pass) kp → IsKnowledge (problem_of inst) rows (members fail) kf
       → IsStep (problem_of inst) rows (members (group_at rows place)) (step_by pass kp fail kf)
-  step-holds place t pass Unknown fail kf lt first ep ef hp hf = new-pass place t pass lt first ep hp
-  step-holds place t pass (Open q) fail Unknown lt first ep ef hp hf = new-fail place t fail lt first ef hf
-  step-holds place t pass (Open q) fail (Open r) lt first ep ef hp hf = below-pass _ place t q pass first ep hp
-  step-holds place t pass (Open q) fail Closed lt first ep ef hp hf = below-pass _ place t q pass first ep hp
-  step-holds place t pass Closed fail Unknown lt first ep ef hp hf = new-fail place t fail lt first ef hf
-  step-holds place t pass Closed fail (Open r) lt first ep ef hp hf = below-fail _ place t r fail first ef hf
-  step-holds place t pass Closed fail Closed lt first ep ef hp hf = closes place t pass fail first ep ef hp hf
+  step-holds place t pass Unknown fail kf lt is first ep ef hp hf = new-pass place t pass lt first ep hp
+  step-holds place t pass (Open q) fail Unknown lt is first ep ef hp hf = new-fail place t fail lt first ef hf
+  step-holds place t pass (Open q) fail (Open r) lt is first ep ef hp hf = below-pass _ place t q pass first ep hp
+  step-holds place t pass (Open q) fail Closed lt is first ep ef hp hf = below-pass _ place t q pass first ep hp
+  step-holds place t pass Closed fail Unknown lt is first ep ef hp hf = new-fail place t fail lt first ef hf
+  step-holds place t pass Closed fail (Open r) lt is first ep ef hp hf = below-fail _ place t r fail first ef hf
+  step-holds place t pass Closed fail Closed lt is first ep ef hp hf = closes place t pass fail is ep ef hp hf
 
 -- ---- after a turn ----
 

@@ -1,6 +1,6 @@
 -- What a walk knows: sound rows, what is kept of each row's group, and what each group with a number counts.
-use Rattle.std.specs.Prelude.{◌≡◌, ◌⊎◌, ℕ, ◌≤◌, max, min, All, List, [], ◌∷◌, length, map, Some, slice_get, slice_set, slice_index_or}
-use Rattle.seq_theory.specs.Problem.{Problem, splitting, weight_of}
+use Rattle.std.specs.Prelude.{◌≡◌, ◌⊎◌, ℕ, ◌≤◌, max, min, All, List, [], ◌∷◌, length, map, Option, Some, None, slice_get, slice_set, slice_index_or}
+use Rattle.seq_theory.specs.Problem.{Problem, weight_of}
 use Rattle.seq_theory.specs.Bound.{bound, step_sum}
 use Rattle.seq_theory.specs.Greedy.{greedy_cost}
 use Rattle.seq_theory.specs.Rows.{no_value, known_low, known_up, IsSound}
@@ -10,14 +10,15 @@ use Rattle.seq_inst.specs.declared.outcome.Row.{Row}
 use Rattle.seq_inst.specs.Members.{members}
 use Rattle.seq_inst.specs.Valid.{no_class}
 use Rattle.seq_core.specs.declared.kept.Kept.{Kept}
-use Rattle.seq_core.specs.KeptOf.{HasParts}
+use Rattle.seq_core.specs.declared.kept.Split.{Split}
+use Rattle.seq_core.specs.declared.kept.Waiting.{Waiting}
+use Rattle.seq_core.specs.KeptOf.{AreTestsOf}
 use Rattle.seq_core.specs.Numbered.{Numbered, HasNumber, AreNumbers}
 use Rattle.seq_core.specs.RowsOf.{rows_of as rows_from, place_in}
 use Rattle.seq_core.specs.Settled.{value_or}
 use Rattle.seq_solo.specs.declared.search.Count.{Count}
 use Rattle.seq_solo.specs.declared.search.Search.{Search}
 use Rattle.seq_solo.specs.Counts.{count_at}
-use Rattle.seq_solo.specs.Thinned.{IsThinned}
 
 -- no upper bound is known, or it is one of a size that sums of three fit a word
 abbrev pub HasSmallUp : Row → Type 0
@@ -38,15 +39,30 @@ row_at rows place = slice_index_or rows place no_row
 abbrev pub group_at : List Row → ℕ → Group
 group_at rows place = (row_at rows place).group
 
--- what is kept of a row's group. Of the tests that split it those are left out whose sum is above the row's up: lows rise and
--- ups fall, so such a test is never again the one of least sum, and gives no lower up
+-- what is kept of a row's group. Of the tests that split it each is evaluated, or waits with a number that is at most its sum, or
+-- is left out since its sum is above the row's up: lows rise and ups fall, so such a test is never again the one of least sum,
+-- and gives no lower up
 pub record IsKeptBy (p : Problem) (v : Numbered) (rows : List Row) (r : Row) (k : Kept) : Type 0 where
   pub number : HasNumber v (members r.group) k.number
   pub weight : k.weight ≡ weight_of p (members r.group)
   pub bound_is : k.bound ≡ bound p (members r.group)
   pub greedy : k.greedy ≡ greedy_cost p (members r.group)
-  pub tests : IsThinned (step_sum p (known_low p (rows_from rows)) (members r.group)) r.up (splitting p (members r.group)) (map (λ s. s.test) k.splits.items)
-  pub parts : All (HasParts p v (members r.group)) k.splits.items
+  pub tests : AreTestsOf p v (members r.group) (step_sum p (known_low p (rows_from rows)) (members r.group)) r.up k.splits.items k.waiting.items
+
+-- the evaluated tests of the group of a place, and those that wait
+abbrev pub splits_in : Option Kept → List Split
+splits_in None = []
+splits_in (Some k) = k.splits.items
+
+abbrev pub splits_at : List Kept → ℕ → List Split
+splits_at kept place = splits_in (slice_get kept place)
+
+abbrev pub waiting_in : Option Kept → List Waiting
+waiting_in None = []
+waiting_in (Some k) = k.waiting.items
+
+abbrev pub waiting_at : List Kept → ℕ → List Waiting
+waiting_at kept place = waiting_in (slice_get kept place)
 
 -- what is kept is that of the rows, one by one
 pub record AreKept (p : Problem) (v : Numbered) (rows : List Row) (kept : List Kept) : Type 0 where

@@ -1,8 +1,8 @@
 pub mod Counts
-pub mod Thinned
+pub mod Sums
 pub mod Known
 pub mod Choice
-pub mod Steps
 pub mod Parts
+pub mod Steps
 pub mod Walks
 pub mod Found

@@ -1,22 +1,28 @@
-//! The test of least sum, and what the rows allow a group to be raised and capped to. All go through
-//! the tests that are kept of the group, and give what going through all its tests would give.
-ghost use Rattle.std.specs.Prelude.{◌≡◌, ◌<◌, min, length};
-ghost use Rattle.seq_theory.specs.Problem.{splitting};
+//! The test of least sum. Not all tests are evaluated: one waits with a number that is at most its sum,
+//! and is evaluated where this number is no more than the least sum so far. Where all that wait are
+//! above it, the least sum is certain, and is what evaluating all tests would give.
+ghost use Rattle.std.specs.Prelude.{◌≡◌, ◌<◌, ◌∷◌, min, map, Contains, length, IfOk};
+ghost use Rattle.std.specs.List.{filter_map};
+ghost use Rattle.seq_theory.specs.Problem.{least_of};
 ghost use Rattle.seq_theory.specs.Bound.{step_sum};
 ghost use Rattle.seq_theory.specs.Graph.{step_value};
-ghost use Rattle.seq_theory.specs.Greedy.{first_least};
-ghost use Rattle.seq_theory.specs.Rows.{known_low, known_up, most_low as most_low_of, least_up as least_up_of};
+ghost use Rattle.seq_theory.specs.Greedy.{greedy_cost};
+ghost use Rattle.seq_theory.specs.Rows.{known_low, known_up};
 ghost use Rattle.seq_inst.specs.Members.{members};
 ghost use Rattle.seq_inst.specs.Instances.{problem_of};
 ghost use Rattle.seq_core.specs.RowsOf.{rows_of as rows_from};
 ghost use Rattle.seq_core.specs.KeptOf.{HasParts};
-ghost use Rattle.seq_solo.specs.Known.{IsKnown, row_at, group_at};
-ghost use Rattle.seq_solo.specs.Choice.{lesser_choice, lesser_value};
+ghost use Rattle.seq_solo.specs.Known.{IsKnown, row_at, group_at, splits_at};
+ghost use Rattle.seq_solo.specs.Choice.{lesser_choice, lesser_value, IsChoice};
+ghost use Rattle.seq_solo.specs.Steps.{least_test as least_test_of};
 
 use crate::search::Search;
 use crate::sums::sum_of;
+use crate::waiting::{evaluate, next_waiting};
 use seq_core::Split;
+use seq_huff::Scratch;
 use seq_inst::Instance;
+use std::alloc::AllocError;
 
 /// A test with the numbers of its parts, and its sum.
 #[derive(Clone, Copy)]
@@ -25,12 +31,15 @@ pub(crate) struct Chosen {
     pub(crate) sum: u64,
 }
 
-/// The earlier choice, unless the new sum is less.
+/// The earlier choice, unless the new sum is less, or no more and its test lower.
 fn choose(earlier: Option<Chosen>, split: Split, sum: u64) -> Chosen
     ensures { result ≡ lesser_choice earlier split sum }
 {
     match earlier {
-        Some(chosen) if chosen.sum <= sum => chosen,
+        Some(chosen)
+            if chosen.sum < sum || (chosen.sum == sum && chosen.split.test <= split.test) => {
+            chosen
+        }
         _ => Chosen { split, sum },
     }
 }
@@ -47,13 +56,11 @@ fn low_sum(inst: &Instance, search: &Search, place: usize, split: Split) -> u64
     sum_of(inst, search.counts.as_slice(), weight, split)
 }
 
-/// The splitting test of least sum, the lowest of these.
-pub(crate) fn least_test(inst: &Instance, search: &Search, place: usize) -> Chosen
+/// The evaluated test of least sum, the lowest of these, if any is evaluated.
+fn least_evaluated(inst: &Instance, search: &Search, place: usize) -> Option<Chosen>
     requires known { IsKnown (problem_of inst.now) search.now }
     requires place { place < length search.now.rows.items }
-    ensures test { result.split.test ≡ first_least (step_sum (problem_of inst.now) (known_low (problem_of inst.now) (rows_from search.now.rows.items)) (members (group_at search.now.rows.items place))) (splitting (problem_of inst.now) (members (group_at search.now.rows.items place))) }
-    ensures sum { result.sum ≡ step_sum (problem_of inst.now) (known_low (problem_of inst.now) (rows_from search.now.rows.items)) (members (group_at search.now.rows.items place)) result.split.test }
-    ensures parts { HasParts (problem_of inst.now) search.now.numbers (members (group_at search.now.rows.items place)) result.split }
+    ensures { IsChoice (step_sum (problem_of inst.now) (known_low (problem_of inst.now) (rows_from search.now.rows.items)) (members (group_at search.now.rows.items place))) (splits_at search.now.kept.items place) result }
 {
     let splits = search.kept[place].splits.as_slice();
     let mut chosen = None;
@@ -61,20 +68,34 @@ pub(crate) fn least_test(inst: &Instance, search: &Search, place: usize) -> Chos
         let sum = low_sum(inst, search, place, *split);
         chosen = Some(choose(chosen, *split, sum));
     }
-    match chosen {
-        Some(chosen) => chosen,
-        None => unreachable!(),
-    }
+    chosen
 }
 
-/// The most to which the group of the place may be raised: the larger of its bound and the least sum.
-pub(crate) fn most_low(inst: &Instance, search: &Search, place: usize) -> u64
-    requires known { IsKnown (problem_of inst.now) search.now }
-    requires place { place < length search.now.rows.items }
-    ensures { result ≡ most_low_of (problem_of inst.now) (rows_from search.now.rows.items) (members (group_at search.now.rows.items place)) }
+/// The splitting test of least sum, the lowest of these. It is evaluated.
+pub(crate) fn least_test(
+    scratch: &mut Scratch,
+    inst: &Instance,
+    search: &mut Search,
+    place: usize,
+) -> Result<Chosen, AllocError>
+    requires known { IsKnown (problem_of inst.now) search.old }
+    requires place { place < length search.old.rows.items }
+    ensures known { IfOk result (λ _. IsKnown (problem_of inst.now) search.new) }
+    ensures rows { IfOk result (λ _. search.new.rows.items ≡ search.old.rows.items) }
+    ensures test { IfOk result (λ c. c.split.test ≡ least_test_of (problem_of inst.now) search.new.rows.items (members (group_at search.new.rows.items place))) }
+    ensures sum { IfOk result (λ c. c.sum ≡ step_sum (problem_of inst.now) (known_low (problem_of inst.now) (rows_from search.new.rows.items)) (members (group_at search.new.rows.items place)) c.split.test) }
+    ensures parts { IfOk result (λ c. HasParts (problem_of inst.now) search.new.numbers (members (group_at search.new.rows.items place)) c.split) }
+    ensures evaluated { IfOk result (λ c. Contains (splits_at search.new.kept.items place) c.split) }
 {
-    let chosen = least_test(inst, search, place);
-    search.kept[place].bound.max(chosen.sum)
+    let mut chosen = least_evaluated(inst, search, place);
+    while let Some(at) = next_waiting(search.kept[place].waiting.as_slice(), chosen) {
+        evaluate(scratch, inst, search, place, at)?;
+        chosen = least_evaluated(inst, search, place);
+    }
+    match chosen {
+        Some(chosen) => Ok(chosen),
+        None => unreachable!(),
+    }
 }
 
 /// The sum of a test and the ups of its parts, if both have one.
@@ -103,12 +124,11 @@ fn lesser_of(number: u64, value: Option<u64>) -> u64
     }
 }
 
-/// The least to which the row may be capped, or its up where that is less: a test that was left out has
-/// no lesser sum of ups.
+/// The least of the row's up, greedy's cost, and the sums of the ups of the evaluated tests' parts.
 pub(crate) fn least_up(inst: &Instance, search: &Search, place: usize) -> u64
     requires known { IsKnown (problem_of inst.now) search.now }
     requires place { place < length search.now.rows.items }
-    ensures { result ≡ min (row_at search.now.rows.items place).up (least_up_of (problem_of inst.now) (rows_from search.now.rows.items) (members (group_at search.now.rows.items place))) }
+    ensures { result ≡ least_of (min (row_at search.now.rows.items place).up (greedy_cost (problem_of inst.now) (members (group_at search.now.rows.items place))) ∷ filter_map (step_value (problem_of inst.now) (known_up (problem_of inst.now) (rows_from search.now.rows.items)) (members (group_at search.now.rows.items place))) (map (λ s. s.test) (splits_at search.now.kept.items place))) }
 {
     let splits = search.kept[place].splits.as_slice();
     let mut least = search.rows[place].up.min(search.kept[place].greedy);

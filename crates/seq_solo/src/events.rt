@@ -1,17 +1,21 @@
 //! The events of a search: a group is entered, raised to what its parts' lows give, and capped by what
 //! their ups give. Each keeps the rows sound, and beside each number what its group counts.
-ghost use Rattle.std.specs.Prelude.{◌≡◌, ◌<◌, ◌≤◌, false, length, IfOk, [], ◌∷◌, ◌++◌};
+ghost use Rattle.std.specs.Prelude.{◌≡◌, ◌<◌, Contains, false, length, IfOk, [], ◌∷◌, ◌++◌};
+ghost use Rattle.seq_theory.specs.Bound.{step_sum};
 ghost use Rattle.seq_theory.specs.Graph.{is_entered, IsReal};
-ghost use Rattle.seq_theory.specs.Rows.{groups_of, no_value, least_up as least_up_of, most_low as most_low_of};
+ghost use Rattle.seq_theory.specs.Greedy.{greedy_cost};
+ghost use Rattle.seq_theory.specs.Rows.{groups_of, known_low, no_value};
 ghost use Rattle.seq_inst.specs.Members.{members};
 ghost use Rattle.seq_inst.specs.Instances.{problem_of};
 ghost use Rattle.seq_core.specs.RowsOf.{rows_of as rows_from};
-ghost use Rattle.seq_solo.specs.Known.{IsKnown, Narrows, group_at, IsClosedAt, raised_at, capped_at, narrowed_at};
+ghost use Rattle.seq_solo.specs.Known.{IsKnown, Narrows, group_at, splits_at, IsClosedAt, raised_at, capped_at, narrowed_at};
+ghost use Rattle.seq_solo.specs.Steps.{least_test as least_test_of, ClosesBelow};
 
-use crate::choice::{least_up, most_low};
+use crate::choice::{Chosen, least_test, least_up};
 use crate::counts::count_new;
 use crate::search::{Count, Search};
-use crate::sums::leave_out;
+use crate::sums::{leave_out, leave_out_waiting};
+use crate::waiting::look;
 use seq_core::Kept;
 use seq_huff::Scratch;
 use seq_inst::{Group, Instance, Row};
@@ -45,15 +49,18 @@ fn narrow(counts: &mut Vec<Count>, number: usize, low: u64, up: u64)
     count.up = count.up.min(up);
 }
 
-/// Raises and caps a group by what is known of its parts.
-fn tighten(inst: &Instance, search: &mut Search, place: usize)
+/// Raises a group to the least sum of its tests, and caps it by those that are evaluated.
+fn tighten(inst: &Instance, search: &mut Search, place: usize, chosen: Chosen)
     requires known { IsKnown (problem_of inst.now) search.old }
     requires place { place < length search.old.rows.items }
+    requires test { chosen.split.test ≡ least_test_of (problem_of inst.now) search.old.rows.items (members (group_at search.old.rows.items place)) }
+    requires sum { chosen.sum ≡ step_sum (problem_of inst.now) (known_low (problem_of inst.now) (rows_from search.old.rows.items)) (members (group_at search.old.rows.items place)) chosen.split.test }
+    requires evaluated { Contains (splits_at search.old.kept.items place) chosen.split }
     ensures known { IsKnown (problem_of inst.now) search.new }
     ensures narrows { Narrows search.old.rows.items search.new.rows.items }
-    ensures closes { least_up_of (problem_of inst.now) (rows_from search.old.rows.items) (members (group_at search.old.rows.items place)) ≤ most_low_of (problem_of inst.now) (rows_from search.old.rows.items) (members (group_at search.old.rows.items place)) → IsClosedAt search.new.rows.items place }
+    ensures closes { ClosesBelow (problem_of inst.now) search.old.rows.items (members (group_at search.old.rows.items place)) → IsClosedAt search.new.rows.items place }
 {
-    let low = most_low(inst, search, place);
+    let low = search.kept[place].bound.max(chosen.sum);
     let up = least_up(inst, search, place);
     let number = search.kept[place].number as usize;
     raise(&mut search.rows, place, low);
@@ -72,21 +79,30 @@ fn thin(inst: &Instance, search: &mut Search, place: usize)
     let kept = &mut search.kept[place];
     let weight = kept.weight;
     leave_out(inst, search.counts.as_slice(), weight, up, &mut kept.splits);
+    leave_out_waiting(up, &mut kept.waiting);
 }
 
 /// Raises and caps a group by what is known of its parts, and leaves out tests that are of no more use.
-pub(crate) fn refresh(inst: &Instance, search: &mut Search, place: usize)
+pub(crate) fn refresh(
+    scratch: &mut Scratch,
+    inst: &Instance,
+    search: &mut Search,
+    place: usize,
+) -> Result<(), AllocError>
     requires known { IsKnown (problem_of inst.now) search.old }
     requires place { place < length search.old.rows.items }
-    ensures known { IsKnown (problem_of inst.now) search.new }
-    ensures narrows { Narrows search.old.rows.items search.new.rows.items }
-    ensures closes { least_up_of (problem_of inst.now) (rows_from search.old.rows.items) (members (group_at search.old.rows.items place)) ≤ most_low_of (problem_of inst.now) (rows_from search.old.rows.items) (members (group_at search.old.rows.items place)) → IsClosedAt search.new.rows.items place }
+    ensures known { IfOk result (λ _. IsKnown (problem_of inst.now) search.new) }
+    ensures narrows { IfOk result (λ _. Narrows search.old.rows.items search.new.rows.items) }
+    ensures closes { IfOk result (λ _. ClosesBelow (problem_of inst.now) search.old.rows.items (members (group_at search.old.rows.items place)) → IsClosedAt search.new.rows.items place) }
 {
-    tighten(inst, search, place);
+    look(scratch, inst, search, place)?;
+    let chosen = least_test(scratch, inst, search, place)?;
+    tighten(inst, search, place, chosen);
     thin(inst, search, place);
+    Ok(())
 }
 
-/// Gives a group a row of which nothing is known, with what is kept of it.
+/// Gives a group a row with what greedy costs for an up, and what is kept of it.
 fn add(
     alloc: Global,
     scratch: &mut Scratch,
@@ -99,16 +115,18 @@ fn add(
     requires new { is_entered (groups_of (rows_from search.old.rows.items)) (members group.now) ≡ false }
     requires room { length search.old.rows.items < 32768 }
     ensures known { IfOk result (λ _. IsKnown (problem_of inst.now) search.new) }
-    ensures rows { IfOk result (λ _. search.new.rows.items ≡ search.old.rows.items ++ record { group = group.now; low = 0; up = no_value } ∷ []) }
+    ensures rows { IfOk result (λ _. search.new.rows.items ≡ search.old.rows.items ++ record { group = group.now; low = 0; up = greedy_cost (problem_of inst.now) (members group.now) } ∷ []) }
 {
     let place = search.rows.len();
     let kept = Kept::of(alloc, scratch, &mut search.numbers, inst, group)?;
     count_new(inst, &search.numbers, &mut search.counts)?;
-    search.counts[kept.number as usize].place = Some(place as u32);
+    let count = &mut search.counts[kept.number as usize];
+    count.up = kept.greedy;
+    count.place = Some(place as u32);
     search.rows.push(Row {
         group: *group,
         low: 0,
-        up: u64::MAX,
+        up: kept.greedy,
     })?;
     search.kept.push(kept)?;
     Ok(())
@@ -125,6 +143,7 @@ fn give_back(inst: &Instance, search: &mut Search, place: usize)
     let _ = inst;
     let kept = &mut search.kept[place];
     kept.splits.shrink_to_fit();
+    kept.waiting.shrink_to_fit();
 }
 
 /// Enters a group, and raises and caps it.
@@ -144,7 +163,7 @@ pub(crate) fn enter(
 {
     let place = search.rows.len();
     add(alloc, scratch, inst, search, group)?;
-    refresh(inst, search, place);
+    refresh(scratch, inst, search, place)?;
     give_back(inst, search, place);
     Ok(())
 }

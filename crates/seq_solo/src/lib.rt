@@ -7,8 +7,9 @@
 //! sound throughout.
 //!
 //! Each group that is met has a number, and what it counts stands in a list by number, so a sum costs two
-//! look-ups. The tests that split a group are worked out once, when it is entered, and those whose sums
-//! pass its up are left out for good.
+//! look-ups. The tests that split a group are listed once, when it is entered. Each waits with a number
+//! that is at most its sum, and is evaluated where the least sum isn't certain without it, or where both
+//! of its parts have an up. Those whose sums pass the group's up are left out for good.
 #![tactic(auto)]
 
 mod alone;
@@ -21,6 +22,7 @@ mod sums;
 #[cfg(test)]
 mod tests;
 mod turn;
+mod waiting;
 
 pub use alone::solve_alone;
 pub use found::Found;

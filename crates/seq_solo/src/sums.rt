@@ -1,10 +1,10 @@
 //! Sums of tests over what their parts count for a low, and the tests whose sums are too great to be of
 //! use again.
 ghost use Rattle.std.specs.Prelude.{◌≡◌, nat_le, All, filter};
-ghost use Rattle.seq_solo.specs.Thinned.{counted_sum, IsCountable};
+ghost use Rattle.seq_solo.specs.Sums.{counted_sum, IsCountable};
 
 use crate::search::Count;
-use seq_core::Split;
+use seq_core::{Split, Waiting};
 use seq_inst::Instance;
 
 /// The sum of a test over a group of this weight, and what its parts count.
@@ -37,4 +37,20 @@ pub(crate) fn leave_out(
         }
     }
     splits.truncate(left);
+}
+
+/// Leaves out the tests that wait with a number above the up. Those that stay are moved to the front, in
+/// order.
+pub(crate) fn leave_out_waiting(up: u64, waiting: &mut Vec<Waiting>)
+    ensures { waiting.new.items ≡ filter (λ w. nat_le w.least up) waiting.old.items }
+{
+    let mut left = 0;
+    for at in 0..waiting.len() {
+        let entry = waiting[at];
+        if entry.least <= up {
+            waiting[left] = entry;
+            left += 1;
+        }
+    }
+    waiting.truncate(left);
 }

@@ -87,17 +87,24 @@ fn step_of(pass: Group, pass_known: Knowledge, fail: Group, fail_known: Knowledg
 }
 
 /// What the walk does at a group, by its test of least sum.
-fn next_step(inst: &Instance, search: &Search, place: usize) -> Step
-    requires known { IsKnown (problem_of inst.now) search.now }
-    requires place { place < length search.now.rows.items }
-    ensures { IsStep (problem_of inst.now) search.now.rows.items (members (group_at search.now.rows.items place)) result }
+fn next_step(
+    scratch: &mut Scratch,
+    inst: &Instance,
+    search: &mut Search,
+    place: usize,
+) -> Result<Step, AllocError>
+    requires known { IsKnown (problem_of inst.now) search.old }
+    requires place { place < length search.old.rows.items }
+    ensures known { IfOk result (λ _. IsKnown (problem_of inst.now) search.new) }
+    ensures rows { IfOk result (λ _. search.new.rows.items ≡ search.old.rows.items) }
+    ensures step { IfOk result (IsStep (problem_of inst.now) search.old.rows.items (members (group_at search.old.rows.items place))) }
 {
-    let split = least_test(inst, search, place).split;
+    let split = least_test(scratch, inst, search, place)?.split;
     let pass_part = search.numbers.group_at(split.pass);
     let fail_part = search.numbers.group_at(split.fail);
     let pass_known = knowledge_of(inst, search, split.pass);
     let fail_known = knowledge_of(inst, search, split.fail);
-    step_of(pass_part, pass_known, fail_part, fail_known)
+    Ok(step_of(pass_part, pass_known, fail_part, fail_known))
 }
 
 /// One turn from a group on. The answer is the group that could not be entered, if there is one; then
@@ -118,24 +125,24 @@ pub(crate) fn turn(
     ensures known { IfOk result (λ _. IsKnown (problem_of inst.now) search.new) }
     ensures turned { IfOk result (HasTurned (problem_of inst.now) limit search.old.rows.items search.new.rows.items) }
 {
-    match next_step(inst, search, place) {
+    match next_step(scratch, inst, search, place)? {
         Step::Enter { group } => {
             if search.rows.len() >= limit as usize {
                 return Ok(Some(group));
             }
             enter(alloc, scratch, inst, search, &group)?;
-            refresh(inst, search, place);
+            refresh(scratch, inst, search, place)?;
             Ok(None)
         }
         Step::Down { place: next } => {
             if let Some(group) = turn(alloc, scratch, inst, limit, search, next)? {
                 return Ok(Some(group));
             }
-            refresh(inst, search, place);
+            refresh(scratch, inst, search, place)?;
             Ok(None)
         }
         Step::Close => {
-            refresh(inst, search, place);
+            refresh(scratch, inst, search, place)?;
             Ok(None)
         }
     }

@@ -1,17 +1,19 @@
-use Rattle.std.proofs.Common.{◌≡◌, map, take, Some}
+use Rattle.std.proofs.Common.{◌≡◌, length}
 use Rattle.seq_theory.specs.Bound.{step_sum}
 use Rattle.seq_theory.specs.Rows.{known_low}
 use Rattle.seq_inst.specs.Members.{members}
 use Rattle.seq_inst.specs.Instances.{problem_of}
-use Rattle.seq_core.specs.KeptOf.{HasParts}
 use Rattle.seq_core.specs.RowsOf.{rows_of as rows_from}
-use Rattle.seq_solo.specs.declared.choice.Chosen.{Chosen}
-use Rattle.seq_solo.specs.Known.{group_at}
-use Rattle.seq_solo.proofs.ChoiceLaws.{ChosenSoFar}
+use Rattle.seq_solo.specs.Choice.{IsChoice}
+use Rattle.seq_solo.specs.Known.{IsKnown, group_at, splits_at, waiting_at}
 use Rattle.seq_solo.proofs.choice.least_test.Given as goal
 
-abbrev pub invariant-loop-split : goal.invariant-loop-split
-invariant-loop-split l = record {
-  chosen : ChosenSoFar (step_sum (problem_of l.inst) (known_low (problem_of l.inst) (rows_from l.search.rows.items)) (members (group_at l.search.rows.items l.place))) (map (λ s. s.test) (take l.split-index l.splits)) l.chosen;
-  parts : (c : Chosen) → l.chosen ≡ Some c → HasParts (problem_of l.inst) l.search.numbers (members (group_at l.search.rows.items l.place)) c.split;
+abbrev pub invariant-loop-at : goal.invariant-loop-at
+invariant-loop-at l = record {
+  known : IsKnown (problem_of l.inst) l.search;
+  rows : l.search.rows.items ≡ l.initial.search.rows.items;
+  chosen : IsChoice (step_sum (problem_of l.inst) (known_low (problem_of l.inst) (rows_from l.search.rows.items)) (members (group_at l.search.rows.items l.place))) (splits_at l.search.kept.items l.place) l.chosen;
 }
+
+abbrev pub decreases-loop-at : goal.decreases-loop-at
+decreases-loop-at l = length (waiting_at l.search.kept.items l.place)

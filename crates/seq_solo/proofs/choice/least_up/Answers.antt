@@ -1,23 +1,20 @@
-use Rattle.std.proofs.Common.{◌∙◌, ◌+◌, ◌∷◌, ap, get_or, take, map}
+use Rattle.std.proofs.Common.{◌∙◌, ◌+◌, ◌∷◌, arith, ap, sym, get_or, take, take_all, map}
 use Rattle.std.specs.List.{filter_map}
 use Rattle.std.proofs.lemmas.List.{map_more, get_or_read}
-use Rattle.seq_theory.specs.Problem.{least_of, splitting}
+use Rattle.seq_theory.specs.Problem.{least_of}
 use Rattle.seq_theory.specs.Greedy.{greedy_cost}
 use Rattle.seq_theory.specs.Graph.{step_value}
-use Rattle.seq_theory.specs.Rows.{known_up, known_low}
+use Rattle.seq_theory.specs.Rows.{known_up}
 use Rattle.seq_inst.specs.Members.{members}
 use Rattle.seq_inst.specs.Instances.{problem_of}
 use Rattle.seq_core.specs.declared.kept.Split.{Split}
 use Rattle.seq_core.specs.RowsOf.{rows_of as rows_from}
 use Rattle.seq_solo.specs.Known.{group_at, row_at, no_row}
-use Rattle.seq_solo.proofs.KnownLaws.{row-within}
 use Rattle.seq_solo.proofs.ChoiceLaws.{least_value-more}
-use Rattle.seq_solo.proofs.CountLaws.{kept-read, step-le}
-use Rattle.seq_solo.proofs.SplitLaws.{split-at, tests-all}
+use Rattle.seq_solo.proofs.CountLaws.{kept-read}
+use Rattle.seq_solo.proofs.SplitLaws.{split-at, splits-read}
 use Rattle.seq_solo.proofs.choice.least_up.Goals as goal
 use Rattle.std.specs.Prelude.{min}
-use Rattle.seq_solo.proofs.ThinLaws.{least-front, thinned-values}
-use Rattle.seq_theory.specs.Bound.{step_sum}
 use Rattle.seq_inst.specs.declared.outcome.Row.{Row}
 
 pub loop-split-init : goal.loop-split-init
@@ -63,12 +60,11 @@ returns c =
     let s = c.args.search.now in
     let p = problem_of c.args.inst.now in
     let r = row_at s.rows.items c.args.place in
-    let g = members (group_at s.rows.items c.args.place) in
-    let kept = kept-read p s.numbers s.rows.items s.kept.items s.counts.items c.requires.known c.args.place c.index.result.now c.requires.place c.index.ensures in
-    let rows = c.requires.known.rows_are in
+    let g = members r.group in
+    let xs = c.as_slice-splits.result.now in
     let v = step_value p (known_up p (rows_from s.rows.items)) g in
-    let tests = map (λ (x : Split). x.test) c.index.result.now.splits.items in
+    let long = c.requires.known.kept_are.as_many in
+    let place = c.requires.place in
+    let read = splits-read s.kept.items c.args.place c.index.result.now (omega arith) c.index.ensures in
     c.loop-split.invariant
-    ∙ ap (λ l. least_of (min r.up (greedy_cost p g) ∷ filter_map v l)) (tests-all p s.numbers s.rows.items r c.index.result.now c.as_slice-splits.result.now kept c.as_slice-splits.ensures.value c.loop-split.split-index c.loop-split-test.false)
-    ∙ least-front r.up (greedy_cost p g) (filter_map v tests)
-    ∙ thinned-values (step_sum p (known_low p (rows_from s.rows.items)) g) v r.up (greedy_cost p g) (splitting p g) tests kept.tests (λ t x i e. step-le c.args.inst.now s.rows.items rows g (row-within p s.rows.items rows c.args.place c.requires.place) t x e)
+    ∙ ap (λ l. least_of (min r.up (greedy_cost p g) ∷ filter_map v (map (λ (x : Split). x.test) l))) (take_all c.loop-split.split-index xs c.loop-split-test.false ∙ c.as_slice-splits.ensures.value ∙ sym read)

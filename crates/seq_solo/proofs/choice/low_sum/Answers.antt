@@ -1,5 +1,5 @@
 use Rattle.std.proofs.Common.{◌∙◌, sym, ap, subst}
-use Rattle.seq_solo.specs.Thinned.{counted_sum, IsCountable}
+use Rattle.seq_solo.specs.Sums.{counted_sum, IsCountable}
 use Rattle.seq_solo.proofs.CountLaws.{countable, counted-is}
 use Rattle.seq_solo.proofs.choice.low_sum.Goals as goal
 

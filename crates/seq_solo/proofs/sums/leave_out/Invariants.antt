@@ -1,7 +1,7 @@
 use Rattle.std.proofs.Common.{◌≡◌, ℕ, ◌≤◌, length, get_or, take}
 use Rattle.std.specs.Prelude.{nat_le, filter}
 use Rattle.seq_core.specs.declared.kept.Split.{Split}
-use Rattle.seq_solo.specs.Thinned.{counted_sum}
+use Rattle.seq_solo.specs.Sums.{counted_sum}
 use Rattle.seq_solo.proofs.sums.leave_out.Given as goal
 
 -- those that stay of what was gone through are in front, and the rest is as it was

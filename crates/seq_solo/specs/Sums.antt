@@ -1,16 +1,9 @@
--- Tests of which some are left out, since their sums are too great.
-use Rattle.std.specs.Prelude.{◌≡◌, ℕ, ◌+◌, ◌*◌, ◌<◌, ◌≤◌, Bool, false, List, length, filter, slice_index}
-use Rattle.seq_theory.specs.Problem.{IsIn}
+-- Sums of tests over what their parts count.
+use Rattle.std.specs.Prelude.{ℕ, ◌+◌, ◌*◌, ◌<◌, ◌≤◌, List, length, slice_index}
 use Rattle.seq_huff.specs.Bounds.{greatest_cost}
 use Rattle.seq_core.specs.declared.kept.Split.{Split}
 use Rattle.seq_solo.specs.declared.search.Count.{Count}
 use Rattle.seq_solo.specs.Counts.{count_at}
-
--- these in their order, without some whose sums are above the up
-pub record IsThinned (sum : ℕ → ℕ) (up : ℕ) (all some : List ℕ) : Type 0 where
-  pub stays : ℕ → Bool
-  pub some_are : some ≡ filter stays all
-  pub others : (t : ℕ) → IsIn t all → stays t ≡ false → up < sum t
 
 -- the sum of a test over a group of this weight, and what its parts count for a low
 abbrev pub counted_sum : (costs : List ℕ) (weight : ℕ) (counts : List Count) → Split → ℕ
