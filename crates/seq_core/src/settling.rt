@@ -158,7 +158,7 @@ pub fn lows(
     inst: &Instance,
     rows: &[Row],
 ) -> Result<Vec<u64>, AllocError>
-    requires groups { AreGroups (problem_of inst.now) rows.now }
+    requires { AreGroups (problem_of inst.now) rows.now }
     ensures { IfOk result (λ v. v.items ≡ map (low (problem_of inst.now) (groups_in rows.now)) (groups_in rows.now)) }
 {
     let numbers = Numbers::new(alloc, inst)?;
@@ -174,7 +174,7 @@ pub fn vals(
     inst: &Instance,
     rows: &[Row],
 ) -> Result<Vec<u64>, AllocError>
-    requires groups { AreGroups (problem_of inst.now) rows.now }
+    requires { AreGroups (problem_of inst.now) rows.now }
     ensures { IfOk result (λ v. v.items ≡ map (λ g. value_or (val (problem_of inst.now) (groups_in rows.now) g)) (groups_in rows.now)) }
 {
     let numbers = Numbers::new(alloc, inst)?;

@@ -45,9 +45,32 @@ fn still_missed(verdict: Verdict, missed: Option<Group>) -> Option<Group>
 
 /// The outcome of a search that entered these rows' groups: of the rows it takes the groups alone. A
 /// group that was missed stands in the outcome only where the entered ones do not show the least cost.
-/// Bounds and greedy's costs that the search has worked out are taken from the numbers; others are
-/// worked out here.
 pub fn finish(
+    alloc: Global,
+    inst: &Instance,
+    limit: u32,
+    rows: Vec<Row>,
+    missed: Option<Group>,
+) -> Result<Outcome, AllocError>
+    requires sound { IsSound (problem_of inst.now) limit (rows_from rows.items) }
+    requires root { is_end (problem_of inst.now) (all_classes (problem_of inst.now)) ≡ false → is_entered (groups_in rows.items) (all_classes (problem_of inst.now)) ≡ true }
+    requires stopped { MayStop (problem_of inst.now) limit (groups_in rows.items) missed }
+    ensures right { IfOk result (IsRightOutcome (problem_of inst.now) limit) }
+    ensures rows { IfOk result (λ o. o.rows.items ≡ settled_rows (problem_of inst.now) rows.items) }
+    ensures missed { IfOk result (λ o. o.verdict ≡ Verdict.Bounded → o.missed ≡ missed) }
+    ensures proper { IfOk result (λ o. o.low ≤ o.cost) }
+    ensures there { IfOk result (λ o. AsksOnly (problem_of inst.now).tests (tree_of o.strategy)) }
+    ensures splitting { IfOk result (λ o. AsksSplitting (problem_of inst.now) (tree_of o.strategy) (all_classes (problem_of inst.now))) }
+    ensures leaves { IfOk result (λ o. leaf_count (tree_of o.strategy) ≤ vec_len inst.now.weights) }
+    ensures short { IfOk result (λ o. height (tree_of o.strategy) ≤ 512) }
+{
+    let numbers = Numbers::new(alloc, inst)?;
+    finish_by(alloc, inst, &numbers, limit, rows, missed)
+}
+
+/// The same outcome, for a search that has numbers: bounds and greedy's costs that it has worked out are
+/// taken from them, and only others are worked out here.
+pub fn finish_by(
     alloc: Global,
     inst: &Instance,
     numbers: &Numbers,

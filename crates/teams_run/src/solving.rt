@@ -14,7 +14,7 @@ ghost use Rattle.teams_run.specs.Solved.{IsSolution, Stands, IsLimit};
 
 use crate::preparing::Prepared;
 use seq_cert::report_of;
-use seq_finish::{finish, outcomes_hold};
+use seq_finish::{finish_by, outcomes_hold};
 use seq_inst::{Instance, Outcome, Verdict};
 use seq_shown::{outcomes_print, reports_hold};
 use seq_solo::{Found, solve_alone};
@@ -52,7 +52,7 @@ fn outcome_of(alloc: Global, inst: &Instance, groups: u32) -> Result<Outcome, Al
         missed,
         numbers,
     } = solve_alone(alloc, inst, groups)?;
-    finish(alloc, inst, &numbers, groups, rows, missed)
+    finish_by(alloc, inst, &numbers, groups, rows, missed)
 }
 
 /// The report of a strategy for the system of the matrix.

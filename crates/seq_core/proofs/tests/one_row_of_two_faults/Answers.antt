@@ -12,12 +12,12 @@ step-entered-requires-clause-real g c = two_root c.in_ok-inst.inst (members c.ro
 pub step-second-requires-clause-real : goal.step-second-requires-clause-real
 step-second-requires-clause-real g c = two_part c.in_ok-inst.inst (members c.root-all.result) (members c.part-passing.result) c.in_ok-inst.ensures c.root-all.ensures c.part-passing.ensures
 
-pub lows-requires-clause-groups : goal.lows-requires-clause-groups
-lows-requires-clause-groups g c =
+pub lows-requires : goal.lows-requires
+lows-requires g c =
     let e : c.rows.result.now ≡ c.step-nowhere.new.self.rows = c.rows.ensures in
     subst (AreGroups (problem_of c.in_ok-inst.inst)) (sym e) (sound_are_groups (problem_of c.in_ok-inst.inst) c.step-nowhere.new.self.room c.step-nowhere.new.self.rows c.step-nowhere.ensures.of.sound)
 
-pub vals-requires-clause-groups : goal.vals-requires-clause-groups
-vals-requires-clause-groups g c =
+pub vals-requires : goal.vals-requires
+vals-requires g c =
     let e : c.rows-2.result.now ≡ c.step-nowhere.new.self.rows = c.rows-2.ensures in
     subst (AreGroups (problem_of c.in_ok-inst.inst)) (sym e) (sound_are_groups (problem_of c.in_ok-inst.inst) c.step-nowhere.new.self.room c.step-nowhere.new.self.rows c.step-nowhere.ensures.of.sound)

@@ -10,7 +10,7 @@ use Rattle.seq_core.specs.Tables.{numbered}
 use Rattle.seq_core.specs.Settled.{groups_in, AreGroups, settled_rows}
 use Rattle.seq_finish.specs.Outcomes.{IsSettled}
 use Rattle.seq_finish.proofs.OutcomeLaws.{rows-groups, settled-all, settled-entered, are-entered, root-valued, outcome-right, outcome-shape, outcome-proper}
-use Rattle.seq_finish.proofs.ending.finish.Goals as goal
+use Rattle.seq_finish.proofs.ending.finish_by.Goals as goal
 
 pub settle-requires-clause-groups : goal.settle-requires-clause-groups
 settle-requires-clause-groups c = subst (AreGroups (problem_of c.args.inst.now)) (sym c.as_slice.ensures.value) (rows-groups (problem_of c.args.inst.now) c.args.limit c.args.rows.items c.requires.sound)
