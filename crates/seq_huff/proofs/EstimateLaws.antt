@@ -19,13 +19,13 @@ use Rattle.seq_inst.specs.Instances.{problem_of}
 use Rattle.seq_inst.proofs.WithinLaws.{light}
 use Rattle.seq_huff.specs.declared.mass.Mass.{Mass}
 use Rattle.seq_huff.specs.declared.estimate.Estimate.{Estimate}
-use Rattle.seq_huff.specs.Potential.{unit, potential, potentials}
+use Rattle.seq_huff.specs.Potential.{potentials}
 use Rattle.seq_huff.specs.Estimates.{IsMassOf, AreSums, IsEstimateOf, sum_without, bound_without}
 use Rattle.seq_huff.proofs.BoundFits.{bound-small, product-le}
 use Rattle.seq_huff.proofs.LeastBounds.{weighed}
 use Rattle.seq_huff.proofs.CheaperLaws.{Cheaper, more-cheaper, cheaper-sum, cheaper-length, with-test, sum_first-place, sum_first-suc, bound_from-raises}
 use Rattle.seq_huff.proofs.HuffmanCount.{huff-count, huff-end}
-use Rattle.seq_huff.proofs.MassLaws.{huffman-least, potentials-parts}
+use Rattle.seq_huff.proofs.MassLaws.{potentials-parts}
 use Rattle.seq_huff.proofs.SumsLaws.{costs-few}
 
 -- ---- the tests that split a part ----
@@ -197,16 +197,13 @@ module _ (inst : Instance) (g part : Group) (f : ℕ → Bool) (within : IsWithi
       record { some = omega arith; light = omega arith }
 
   pub part-least : (e : Estimate) (m : Mass) (t cost huffman : ℕ) → IsEstimateOf (problem_of inst) (members g) e → t < (problem_of inst).tests → splits (problem_of inst) (members g) t ≡ true → splits (problem_of inst) (filter f (members g)) t ≡ false → cost ≡ (problem_of inst).cost t
-      → IsMassOf (problem_of inst) (members part) m → ((h : ℕ) → potential m.weight ≤ m.potential + unit * h → huffman ≤ h) → PartLeast inst part e.sums cost m.weight huffman
+      → IsMassOf (problem_of inst) (members part) m → huffman ≤ huff (goal_weights (problem_of inst) (members part)) → PartLeast inst part e.sums cost m.weight huffman
   part-least e m t cost huffman estimate there inside outside ce mass least =
       let p = problem_of inst in
       let w = weight-positive p (members part) (weighed inst) part-within part-some in
       let high : ℕ = huff (goal_weights p (members part)) in
       let we = mass.weight in
-      let above = huffman-least inst part part-within part-some in
-      let pw = ap potential we in
-      let pe = mass.potential in
-      let low : huffman ≤ high = least high (omega arith) in
+      let low : huffman ≤ high = least in
       let count = huff-count p (members part) (weighed inst) inst.valid.told part-within part-some in
       let lengths = long p.cost (splitting p (members part)) in
       let up = length-upward (map p.cost (splitting p (members part))) in
@@ -242,11 +239,11 @@ module _ (inst : Instance) (g part : Group) (t : ℕ) (within : IsWithin (proble
   fail-mass is m mass = part-mass inst g part (fails (problem_of inst) t) within is failing m mass
 
   pub pass-least : members part ≡ pass_part (problem_of inst) t (members g) → (e : Estimate) (m : Mass) (cost huffman : ℕ) → IsEstimateOf (problem_of inst) (members g) e → cost ≡ (problem_of inst).cost t
-      → IsMassOf (problem_of inst) (members part) m → ((h : ℕ) → potential m.weight ≤ m.potential + unit * h → huffman ≤ h) → PartLeast inst part e.sums cost m.weight huffman
+      → IsMassOf (problem_of inst) (members part) m → huffman ≤ huff (goal_weights (problem_of inst) (members part)) → PartLeast inst part e.sums cost m.weight huffman
   pass-least is e m cost huffman estimate ce mass least = part-least inst g part ((problem_of inst).passes t) within is passing e m t cost huffman estimate there inside (not_again-pass (problem_of inst) t (members g)) ce mass least
 
   pub fail-least : members part ≡ fail_part (problem_of inst) t (members g) → (e : Estimate) (m : Mass) (cost huffman : ℕ) → IsEstimateOf (problem_of inst) (members g) e → cost ≡ (problem_of inst).cost t
-      → IsMassOf (problem_of inst) (members part) m → ((h : ℕ) → potential m.weight ≤ m.potential + unit * h → huffman ≤ h) → PartLeast inst part e.sums cost m.weight huffman
+      → IsMassOf (problem_of inst) (members part) m → huffman ≤ huff (goal_weights (problem_of inst) (members part)) → PartLeast inst part e.sums cost m.weight huffman
   fail-least is e m cost huffman estimate ce mass least = part-least inst g part (fails (problem_of inst) t) within is failing e m t cost huffman estimate there inside (not_again-fail (problem_of inst) t (members g)) ce mass least
 
 -- the mass of the group is the masses of its parts together

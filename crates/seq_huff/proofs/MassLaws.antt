@@ -1,13 +1,14 @@
 -- The mass of a group: its sums go over the classes, its potential is at most 2 ^ 26 times its weight, and Huffman's cost is
 -- at least what it says.
-use Rattle.std.proofs.Common.{◌≡◌, ℕ, suc, ◌+◌, ◌*◌, ◌^◌, ◌<◌, ◌≤◌, List, [], ◌∷◌, ◌++◌, length, refl, sym, ap, ◌∙◌, arith, inl, inr}
-use Rattle.std.specs.Prelude.{true, map}
-use Rattle.std.proofs.lemmas.Bool.{cases_Bool}
+use Rattle.std.proofs.Common.{◌≡◌, ℕ, zero, suc, ◌+◌, ◌*◌, ◌^◌, ◌<◌, ◌≤◌, List, [], ◌∷◌, ◌++◌, length, refl, sym, ap, ◌∙◌, arith, inl, inr}
+use Rattle.std.specs.Prelude.{true, false, map}
+use Rattle.std.proofs.lemmas.Bool.{cases_Bool, true≢false}
 use Rattle.std.proofs.lemmas.List.Sums.{sum_by-cons}
-use Rattle.seq_theory.specs.Problem.{Problem, IsIn, IsWithin, all_classes, weight_of, pass_part, fail_part}
-use Rattle.seq_theory.specs.Huffman.{huff}
+use Rattle.seq_theory.specs.Problem.{Problem, IsIn, IsWithin, all_classes, weight_of, pass_part, fail_part, is_end}
+use Rattle.seq_theory.specs.Huffman.{place_in, upward, merging, huff}
 use Rattle.seq_theory.specs.Bound.{goal_weights}
-use Rattle.seq_theory.proofs.HuffmanLaws.{total}
+use Rattle.seq_theory.proofs.HuffmanLaws.{length-place, length-upward, total, total-place, total-upward}
+use Rattle.seq_theory.proofs.BoundLeast.{weight-positive}
 use Rattle.seq_theory.proofs.LeastLaws.{IsIn-count_up}
 use Rattle.seq_inst.specs.declared.group.Group.{Group}
 use Rattle.seq_inst.specs.declared.instance.Instance.{Instance}
@@ -15,8 +16,12 @@ use Rattle.seq_inst.specs.Members.{has_class, members_below, members}
 use Rattle.seq_inst.specs.Instances.{problem_of}
 use Rattle.seq_inst.proofs.MembersLaws.{members_below-in}
 use Rattle.seq_inst.proofs.PartsLaws.{class-within, weight-members_below}
+use Rattle.seq_inst.proofs.WithinLaws.{light}
+use Rattle.seq_huff.specs.declared.mass.Mass.{Mass}
+use Rattle.seq_huff.specs.Estimates.{IsMassOf}
 use Rattle.seq_huff.specs.Potential.{unit, potential, potentials}
 use Rattle.seq_huff.proofs.GoalLaws.{goal_weights-members}
+use Rattle.seq_huff.proofs.LeastBounds.{weighed}
 use Rattle.seq_huff.proofs.PotentialLaws.{ArePositive, potential-below, potential-small}
 
 module _ (p : Problem) where
@@ -84,6 +89,62 @@ huffman-least inst g within some =
     let f = mass-below p (members g) (λ c i. inst.valid.positive c (within c i)) some in
     let e = ap huff (goal_weights-members inst g within) in
     omega arith
+
+-- Huffman's last merge costs the whole weight
+merging-whole : (k : ℕ) (xs : List ℕ) → 2 ≤ length xs → length xs ≤ suc k → total (λ w. w) xs ≤ merging k xs
+merging-whole k [] many le = absurd (let bad : ⊥ = omega arith in bad)
+merging-whole k (x ∷ []) many le = absurd (let bad : ⊥ = omega arith in bad)
+merging-whole zero (x ∷ y ∷ xs) many le = absurd (let bad : ⊥ = omega arith in bad)
+merging-whole (suc k) (x ∷ y ∷ []) many le = omega arith
+merging-whole (suc k) (x ∷ y ∷ z ∷ xs) many le =
+    let l = length-place (x + y) (z ∷ xs) in
+    let t = total-place (λ w. w) (x + y) (z ∷ xs) in
+    let h = merging-whole k (place_in (x + y) (z ∷ xs)) (omega arith) (omega arith) in
+    omega arith
+
+huffman-whole : (ws : List ℕ) → 2 ≤ length ws → total (λ w. w) ws ≤ huff ws
+unfolding huff
+huffman-whole ws many =
+    let l = length-upward ws in
+    let t = total-upward (λ w. w) ws in
+    let h = merging-whole (length ws) (upward ws) (omega arith) (omega arith) in
+    omega arith
+
+some-classes : (p : Problem) (xs : List ℕ) → is_end p xs ≡ false → 2 ≤ length xs
+some-classes p [] e = absurd (true≢false e)
+some-classes p (c ∷ []) e = absurd (true≢false e)
+some-classes p (c ∷ d ∷ xs) e = omega arith
+
+-- so it is at least the weight of two goals or more
+pub huffman-more : (inst : Instance) (g : Group) → IsWithin (problem_of inst) (members g) → is_end (problem_of inst) (members g) ≡ false → weight_of (problem_of inst) (members g) ≤ huff (goal_weights (problem_of inst) (members g))
+huffman-more inst g within more =
+    let p = problem_of inst in
+    let many = some-classes p (members g) more in
+    let l = length-weights p (members g) in
+    let h = huffman-whole (map p.weight (members g)) (omega arith) in
+    let t = total-weights p (members g) in
+    let e = ap huff (goal_weights-members inst g within) in
+    omega arith
+
+-- what the mass of two goals or more says
+pub record MassSays (inst : Instance) (g : Group) (m : Mass) : Type 0 where
+  pub some : 1 ≤ m.weight
+  pub light : m.weight ≤ 4097000000
+  pub low : potential m.weight ≤ m.potential + unit * huff (goal_weights (problem_of inst) (members g))
+  pub whole : m.weight ≤ huff (goal_weights (problem_of inst) (members g))
+
+pub mass-says : (inst : Instance) (g : Group) (m : Mass) → IsWithin (problem_of inst) (members g) → is_end (problem_of inst) (members g) ≡ false → IsMassOf (problem_of inst) (members g) m → MassSays inst g m
+mass-says inst g m within more mass =
+    let p = problem_of inst in
+    let many = some-classes p (members g) more in
+    let a = mass.weight in
+    let b = mass.potential in
+    let e = ap potential a in
+    let l = light inst g within in
+    let w = weight-positive p (members g) (weighed inst) within (omega arith) in
+    let f = huffman-least inst g within (omega arith) in
+    let h = huffman-more inst g within more in
+    record { some = omega arith; light = omega arith; low = omega arith; whole = omega arith }
 
 -- each weight is small
 pub weight-small : (inst : Instance) (c : ℕ) → c < (problem_of inst).classes → (problem_of inst).weight c < 2 ^ 32

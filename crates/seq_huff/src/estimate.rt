@@ -55,8 +55,8 @@ impl Estimate {
         let pass = part(inst, group, test, Answer::Pass);
         let fail = part(inst, group, test, Answer::Fail);
         let masses = masses_of(order, inst, self.mass, &pass, &fail);
-        let pass_huffman = least_huffman(masses.pass);
-        let fail_huffman = least_huffman(masses.fail);
+        let pass_huffman = least_huffman(inst, &pass, masses.pass);
+        let fail_huffman = least_huffman(inst, &fail, masses.fail);
         let pass_least = self.least_bound(cost, masses.pass.weight, pass_huffman);
         let fail_least = self.least_bound(cost, masses.fail.weight, fail_huffman);
         cost * self.mass.weight + (pass_least + fail_least)

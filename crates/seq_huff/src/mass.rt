@@ -3,6 +3,8 @@
 //! says how much Huffman's cost of the group is at least.
 ghost use Rattle.std.specs.Prelude.{◌≡◌, ◌+◌, ◌*◌, ◌^◌, ◌<◌, ◌≤◌, ℕ};
 ghost use Rattle.seq_theory.specs.Problem.{IsWithin, weight_of};
+ghost use Rattle.seq_theory.specs.Huffman.{huff};
+ghost use Rattle.seq_theory.specs.Bound.{goal_weights};
 ghost use Rattle.seq_inst.specs.Members.{members};
 ghost use Rattle.seq_inst.specs.Instances.{problem_of};
 ghost use Rattle.seq_huff.specs.Orders.{IsOrderOf};
@@ -11,7 +13,7 @@ ghost use Rattle.seq_huff.specs.Estimates.{IsMassOf};
 
 use crate::order::Order;
 use crate::potential::{UNIT, nearly_potential};
-use seq_inst::{Group, Instance, count_of};
+use seq_inst::{Group, Instance, count_of, is_leaf};
 
 /// The weight of some classes, and the sum of their potentials.
 #[derive(Clone, Copy)]
@@ -89,7 +91,7 @@ pub(crate) fn masses_of(
 }
 
 /// At most Huffman's cost of the weights of some classes of this mass.
-pub(crate) fn least_huffman(mass: Mass) -> u64
+fn huffman_by_mass(mass: Mass) -> u64
     requires some { 1 ≤ mass.weight }
     requires light { mass.weight < 2 ^ 32 }
     ensures { (huffman : ℕ) → potential_at mass.weight ≤ mass.potential + unit * huffman → result ≤ huffman }
@@ -97,4 +99,18 @@ pub(crate) fn least_huffman(mass: Mass) -> u64
     nearly_potential(mass.weight)
         .saturating_sub(mass.potential)
         .div_ceil(UNIT)
+}
+
+/// At most Huffman's cost of a group of this mass. Where one class has most of the weight its potential
+/// says little; but the last merge of two classes or more costs the whole weight.
+pub(crate) fn least_huffman(inst: &Instance, group: &Group, mass: Mass) -> u64
+    requires within { IsWithin (problem_of inst.now) (members group.now) }
+    requires mass { IsMassOf (problem_of inst.now) (members group.now) mass }
+    ensures { result ≤ huff (goal_weights (problem_of inst.now) (members group.now)) }
+{
+    if is_leaf(inst, group) {
+        0
+    } else {
+        huffman_by_mass(mass).max(mass.weight)
+    }
 }

@@ -19,25 +19,11 @@ masses_of-masses-requires-clause-weight c = (mass-parts c.args.inst.now c.args.g
 pub masses_of-masses-requires-clause-potential : goal.masses_of-masses-requires-clause-potential
 masses_of-masses-requires-clause-potential c = (mass-parts c.args.inst.now c.args.group.now c.part-pass.result c.part-fail.result c.args.test c.args.self.now.mass c.requires.of.mass c.part-pass.ensures c.part-fail.ensures).1
 
-pub least_huffman-pass_huffman-requires-clause-some : goal.least_huffman-pass_huffman-requires-clause-some
-least_huffman-pass_huffman-requires-clause-some c =
-    let p = problem_of c.args.inst.now in
-    let n = c.args.inst.now.costs.ok.0 in
-    let t = c.requires.there in
-    let there : c.args.test < p.tests = omega arith in
-    let pass-mass-is = pass-mass c.args.inst.now c.args.group.now c.part-pass.result c.args.test c.requires.within there c.requires.splits c.part-pass.ensures c.masses_of-masses.result.pass c.masses_of-masses.ensures.pass in
-    let is = pass-mass-is.some in
-    omega arith
+pub least_huffman-pass_huffman-requires-clause-within : goal.least_huffman-pass_huffman-requires-clause-within
+least_huffman-pass_huffman-requires-clause-within c = within-pass (problem_of c.args.inst.now) (members c.args.group.now) (members c.part-pass.result) c.args.test c.requires.within c.part-pass.ensures
 
-pub least_huffman-pass_huffman-requires-clause-light : goal.least_huffman-pass_huffman-requires-clause-light
-least_huffman-pass_huffman-requires-clause-light c =
-    let p = problem_of c.args.inst.now in
-    let n = c.args.inst.now.costs.ok.0 in
-    let t = c.requires.there in
-    let there : c.args.test < p.tests = omega arith in
-    let pass-mass-is = pass-mass c.args.inst.now c.args.group.now c.part-pass.result c.args.test c.requires.within there c.requires.splits c.part-pass.ensures c.masses_of-masses.result.pass c.masses_of-masses.ensures.pass in
-    let is = pass-mass-is.light in
-    omega arith
+pub least_huffman-fail_huffman-requires-clause-within : goal.least_huffman-fail_huffman-requires-clause-within
+least_huffman-fail_huffman-requires-clause-within c = within-fail (problem_of c.args.inst.now) (members c.args.group.now) (members c.part-fail.result) c.args.test c.requires.within c.part-fail.ensures
 
 pub least_bound-pass_least-requires-clause-sums : goal.least_bound-pass_least-requires-clause-sums
 least_bound-pass_least-requires-clause-sums c = each-small c.args.inst.now c.args.group.now c.args.self.now.sums c.requires.of.sums
@@ -69,26 +55,6 @@ least_bound-pass_least-requires-clause-few c =
     let cost : c.from-cost.result ≡ p.cost c.args.test = c.from-cost.ensures ∙ get_or_read c.args.inst.now.costs.items c.args.test c.index.result.now there c.index.ensures 0 in
     let pass-is = pass-least c.args.inst.now c.args.group.now c.part-pass.result c.args.test c.requires.within there c.requires.splits c.part-pass.ensures c.args.self.now c.masses_of-masses.result.pass c.from-cost.result c.least_huffman-pass_huffman.result c.requires.of cost c.masses_of-masses.ensures.pass c.least_huffman-pass_huffman.ensures in
     pass-is.few
-
-pub least_huffman-fail_huffman-requires-clause-some : goal.least_huffman-fail_huffman-requires-clause-some
-least_huffman-fail_huffman-requires-clause-some c =
-    let p = problem_of c.args.inst.now in
-    let n = c.args.inst.now.costs.ok.0 in
-    let t = c.requires.there in
-    let there : c.args.test < p.tests = omega arith in
-    let fail-mass-is = fail-mass c.args.inst.now c.args.group.now c.part-fail.result c.args.test c.requires.within there c.requires.splits c.part-fail.ensures c.masses_of-masses.result.fail c.masses_of-masses.ensures.fail in
-    let is = fail-mass-is.some in
-    omega arith
-
-pub least_huffman-fail_huffman-requires-clause-light : goal.least_huffman-fail_huffman-requires-clause-light
-least_huffman-fail_huffman-requires-clause-light c =
-    let p = problem_of c.args.inst.now in
-    let n = c.args.inst.now.costs.ok.0 in
-    let t = c.requires.there in
-    let there : c.args.test < p.tests = omega arith in
-    let fail-mass-is = fail-mass c.args.inst.now c.args.group.now c.part-fail.result c.args.test c.requires.within there c.requires.splits c.part-fail.ensures c.masses_of-masses.result.fail c.masses_of-masses.ensures.fail in
-    let is = fail-mass-is.light in
-    omega arith
 
 pub least_bound-fail_least-requires-clause-sums : goal.least_bound-fail_least-requires-clause-sums
 least_bound-fail_least-requires-clause-sums c = each-small c.args.inst.now c.args.group.now c.args.self.now.sums c.requires.of.sums
