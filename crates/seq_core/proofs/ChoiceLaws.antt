@@ -1,6 +1,6 @@
 -- Greedy's test is found by few sums: a test whose estimate is above a sum that is known comes later than that sum's test. And
 -- what that test and greedy's costs of its parts add up to.
-use Rattle.std.proofs.Common.{◌≡◌, ℕ, zero, suc, ◌+◌, ◌*◌, ◌<◌, ◌≤◌, ◌≢◌, List, [], ◌∷◌, length, set, get_or, refl, sym, ap, ◌∙◌, arith, subst, inl, inr, Option, Some, None}
+use Rattle.std.proofs.Common.{◌≡◌, ℕ, zero, suc, ◌+◌, ◌*◌, ◌<◌, ◌≤◌, ◌≢◌, List, [], ◌∷◌, length, set, refl, sym, ap, ◌∙◌, arith, subst, inl, inr, Option, Some, None}
 use Rattle.std.specs.Prelude.{⊤, ◌⊎◌, Bool, true, false, cond, filter, nat_le, slice_index}
 use Rattle.std.proofs.Math.ListN.{length-set}
 use Rattle.std.proofs.lemmas.Bool.{cases_Bool, cases_lt, le-leb, lt-leb, true≢false}
@@ -25,9 +25,6 @@ use Rattle.seq_core.specs.Choice.{IsNoLater, IsEvaluated, evaluated}
 use Rattle.seq_core.specs.Numbered.{Numbered, capacity, AreNumbers, KeepsNumbers}
 
 -- ---- which comes first ----
-
-pub no_later-same : (a : Chosen) → IsNoLater a a
-no_later-same a = record { least = omega arith; lowest = λ e. omega arith }
 
 pub no_later-both : (a b c : Chosen) → IsNoLater a b → IsNoLater b c → IsNoLater a c
 no_later-both a b c ab bc = record {
@@ -194,14 +191,6 @@ either-evaluated p group c d r either ic id = elim either [
   | inl e ↦ subst (IsEvaluated p group) (sym e) ic
   | inr e ↦ subst (IsEvaluated p group) (sym e) id
 ]
-
--- a test that is passed over comes later
-pub passed-over : (p : Problem) (group : List ℕ) (c : Chosen) (test estimate : ℕ) → c.sum < estimate → estimate ≤ step_sum p (bound p) group test → IsNoLater c (evaluated p group test)
-passed-over p group c test estimate above low = record { least = omega arith; lowest = λ e. absurd (let bad : ⊥ = omega arith in bad) }
-
--- and the test that is chosen does not come later than itself
-pub chosen-itself : (p : Problem) (group : List ℕ) (c : Chosen) (test : ℕ) → IsEvaluated p group c → test ≡ c.test → IsNoLater c (evaluated p group test)
-chosen-itself p group c test is e = subst (λ t. IsNoLater c (evaluated p group t)) (sym e) (record { least = (let s = is.sum in omega arith); lowest = λ f. omega arith })
 
 -- ---- sums ----
 

@@ -8,7 +8,7 @@
 //! a sum that is known. The test of least estimate is asked first, so that this sum is small from the start.
 //! The bounds that were worked out for a sum are kept, as a search asks for them again; the parts of the
 //! tests that were passed over get no numbers.
-ghost use Rattle.std.specs.Prelude.{◌≡◌, ◌⊎◌, ◌<◌, ◌≤◌, true, false, length, slice_index, Some, IfOk, vec_len};
+ghost use Rattle.std.specs.Prelude.{◌≡◌, ◌⊎◌, ◌<◌, ◌≤◌, true, false, Some, IfOk, vec_len};
 ghost use Rattle.seq_theory.specs.Problem.{IsWithin, is_end, splits as is_split, weight_of as weight_sum};
 ghost use Rattle.seq_theory.specs.Bound.{bound as bound_by, step_sum};
 ghost use Rattle.seq_theory.specs.Greedy.{greedy_test as test_of_greedy, greedy_cost as cost_of_greedy, greedy as tree_of_greedy};
