@@ -1,6 +1,6 @@
 -- Groups by number. A table finds a group by its words, and two groups have the same words exactly where they have the same
 -- classes; so a group that the table doesn't find has no number, and one that is added last is no other's.
-use Rattle.std.proofs.Common.{◌≡◌, ◌≢◌, ℕ, zero, suc, ◌<◌, ◌||◌, List, [], ◌∷◌, ◌++◌, length, map, set, slice_get, position, get_or, Option, Some, None, Bool, true, false, cond, is_some, Result, Ok, Err, IfOk, OnOk, OnErr, ◌⊎◌, inl, inr, refl, sym, ap, subst, ◌∙◌, arith, length-append}
+use Rattle.std.proofs.Common.{◌≡◌, ◌≢◌, ℕ, zero, suc, ◌-◌, ◌<◌, ◌||◌, List, [], ◌∷◌, ◌++◌, length, map, set, slice_get, position, get_or, Option, Some, None, Bool, true, false, cond, is_some, Result, Ok, Err, OnOk, IsOk, is_ok, if◌then◌else◌, ◌⊎◌, inl, inr, refl, sym, ap, subst, ◌∙◌, arith, length-append}
 use Rattle.std.specs.Str.{bytes_eq}
 use Rattle.std.specs.Map.{keys_of, values_of, lookup}
 use Rattle.std.specs.Option.{option_map}
@@ -13,13 +13,13 @@ use Rattle.std.proofs.lemmas.Slice.Eq.{bytes_eq-Decides}
 use Rattle.seq_theory.specs.Problem.{Problem, IsWithin}
 use Rattle.seq_theory.specs.Bound.{bound}
 use Rattle.seq_theory.specs.Graph.{same_group, is_entered}
-use Rattle.seq_theory.specs.Greedy.{greedy_cost}
 use Rattle.seq_theory.specs.Rows.{AreDistinct}
 use Rattle.seq_theory.proofs.RowLaws.{same_group-true, same_group-refl}
 use Rattle.seq_huff.specs.declared.order.Order.{Order}
 use Rattle.seq_inst.proofs.SameGroups.{AreWords as AreEightWords, same_members}
 use Rattle.seq_core.specs.Words.{IsWords, AreWords, classes_of}
-use Rattle.seq_core.specs.Numbered.{Numbered, HasNumber, AreNumbers, KeepsNumbers}
+use Rattle.seq_core.specs.declared.greedy.Greedy.{Greedy}
+use Rattle.seq_core.specs.Numbered.{Numbered, HasNumber, HasGreedy, IsGreedyOf, AreNumbers, KeepsNumbers}
 
 -- ---- elements by their places ----
 
@@ -151,9 +151,9 @@ distinct-more (g ∷ rest) n d e = (
   distinct-more rest n d.1 (or-second (same_group n g) (is_entered rest n) e),
 )
 
--- the groups with one more, of which greedy's cost is not known
+-- the groups with one more, of which nothing of greedy is known
 abbrev pub with_group : Numbered → List ℕ → ℕ → Numbered
-with_group v group b = record v { groups = v.groups ++ group ∷ []; bounds = v.bounds ++ b ∷ []; costs = v.costs ++ None ∷ [] }
+with_group v group b = record v { groups = v.groups ++ group ∷ []; bounds = v.bounds ++ b ∷ []; greedy = v.greedy ++ None ∷ []; room = v.room - 1 }
 
 pub keeps-more : (v : Numbered) (group : List ℕ) (b : ℕ) → KeepsNumbers v (with_group v group b)
 keeps-more v group b g n e = get-before v.groups (group ∷ []) n g e
@@ -161,26 +161,53 @@ keeps-more v group b g n e = get-before v.groups (group ∷ []) n g e
 pub number-more : (v : Numbered) (group : List ℕ) (b n : ℕ) → n ≡ length v.groups → HasNumber (with_group v group b) group n
 number-more v group b n e = ap (slice_get (v.groups ++ group ∷ [])) e ∙ get-last v.groups group
 
--- the table's entries and costs, as they are seen
-abbrev pub numbered_from : Order → List (List ℕ × ℕ) → List (Option ℕ) → Numbered
-numbered_from order entries costs = record { order = order; groups = map classes_of (keys_of entries); bounds = values_of entries; costs = costs }
+-- the table's entries and what is kept of greedy, as they are seen
+abbrev pub numbered_from : Order → List (List ℕ × ℕ) → List (Option Greedy) → ℕ → Numbered
+numbered_from order entries greedy room = record { order = order; groups = map classes_of (keys_of entries); bounds = values_of entries; greedy = greedy; room = room }
 
-abbrev numbered : Order → List (List ℕ) → List ℕ → List (Option ℕ) → Numbered
-numbered order groups bounds costs = record { order = order; groups = groups; bounds = bounds; costs = costs }
+abbrev numbered : Order → List (List ℕ) → List ℕ → List (Option Greedy) → ℕ → Numbered
+numbered order groups bounds greedy room = record { order = order; groups = groups; bounds = bounds; greedy = greedy; room = room }
 
 -- with one more entry
-pub view-more : (order : Order) (old new : List (List ℕ × ℕ)) (words : List ℕ) (b : ℕ) (costs more : List (Option ℕ)) → new ≡ old ++ (words, b) ∷ [] → more ≡ costs ++ None ∷ [] → (v : Numbered)
-    → numbered_from order old costs ≡ v → numbered_from order new more ≡ with_group v (classes_of words) b
-view-more order old new words b costs more e m v is =
+pub view-more : (order : Order) (old new : List (List ℕ × ℕ)) (words : List ℕ) (b : ℕ) (greedy more : List (Option Greedy)) (room : ℕ) → new ≡ old ++ (words, b) ∷ [] → more ≡ greedy ++ None ∷ [] → (v : Numbered)
+    → numbered_from order old greedy room ≡ v → numbered_from order new more (room - 1) ≡ with_group v (classes_of words) b
+view-more order old new words b greedy more room e m v is =
     let groups : map classes_of (keys_of new) ≡ map classes_of (keys_of old) ++ classes_of words ∷ [] = ap (map classes_of) (keys-more old new words b e) ∙ map-append classes_of (keys_of old) (words ∷ []) in
     let bounds : values_of new ≡ values_of old ++ b ∷ [] = values-more old new words b e in
-    ap (λ l. numbered order l (values_of new) more) groups
-    ∙ ap (λ l. numbered order (map classes_of (keys_of old) ++ classes_of words ∷ []) l more) bounds
-    ∙ ap (numbered order (map classes_of (keys_of old) ++ classes_of words ∷ []) (values_of old ++ b ∷ [])) m
+    ap (λ l. numbered order l (values_of new) more (room - 1)) groups
+    ∙ ap (λ l. numbered order (map classes_of (keys_of old) ++ classes_of words ∷ []) l more (room - 1)) bounds
+    ∙ ap (λ l. numbered order (map classes_of (keys_of old) ++ classes_of words ∷ []) (values_of old ++ b ∷ []) l (room - 1)) m
     ∙ ap (λ (u : Numbered). with_group u (classes_of words) b) is
 
-none-some : (c : ℕ) → Some c ≡ None → ⊥
-none-some c e = cc
+-- more room, and nothing else
+pub numbers-room : (p : Problem) (v : Numbered) (room : ℕ) → AreNumbers p v → AreNumbers p (record v { room = room })
+numbers-room p v room are = record {
+  order = are.order;
+  distinct = are.distinct;
+  within = are.within;
+  bounds = are.bounds;
+  as_many = are.as_many;
+  greedy = λ group g h. are.greedy group g (record { number = h.number; has = h.has; kept = h.kept });
+}
+
+pub numbers-reserved : (p : Problem) (order : Order) (old new : List (List ℕ × ℕ)) (greedy kept : List (Option Greedy)) (room more : ℕ) (v : Numbered) → new ≡ old → kept ≡ greedy → numbered_from order old greedy room ≡ v
+    → AreNumbers p v → AreNumbers p (numbered_from order new kept more)
+numbers-reserved p order old new greedy kept room more v e f is are =
+    subst (λ l. AreNumbers p (numbered_from order l kept more)) (sym e)
+    (subst (λ l. AreNumbers p (numbered_from order old l more)) (sym f)
+    (numbers-room p (numbered_from order old greedy room) more (subst (AreNumbers p) (sym is) are)))
+
+-- what an attempt that succeeds has done
+pub inserted : {A E : Type 0} (r : Result A E) (old new : List (List ℕ × ℕ)) → IsOk r → OnOk r (new ≡ old) → new ≡ old
+inserted (Ok a) old new ok done = done
+inserted (Err e) old new ok done = absurd (let bad : ⊥ = cc in bad)
+
+pub pushed : {A E : Type 0} (r : Result A E) (old new : List (Option Greedy)) → IsOk r → new ≡ (if is_ok r then old ++ None ∷ [] else old) → new ≡ old ++ None ∷ []
+pushed (Ok a) old new ok e = e
+pushed (Err x) old new ok e = absurd (let bad : ⊥ = cc in bad)
+
+none-some : (g : Greedy) → Some g ≡ None → ⊥
+none-some g e = cc
 
 module _ (p : Problem) (v : Numbered) (are : AreNumbers p v) where
   pub numbers-more : (group : List ℕ) (b : ℕ) → is_entered v.groups group ≡ false → IsWithin p group → b ≡ bound p group → AreNumbers p (with_group v group b)
@@ -192,32 +219,32 @@ module _ (p : Problem) (v : Numbered) (are : AreNumbers p v) where
       | inr new ↦ subst (IsWithin p) (sym new.1) within
     ];
     bounds = ap (λ l. l ++ b ∷ []) are.bounds ∙ ap (λ k. map (bound p) v.groups ++ k ∷ []) is ∙ sym (map-append (bound p) v.groups (group ∷ []));
-    as_many = (let l1 = length-append v.costs (None ∷ []) in let l2 = length-append v.groups (group ∷ []) in let l3 = are.as_many in omega arith);
-    costs = λ g n cost e at. elim (get-more v.costs None n (Some cost) at) [
-      | inr new ↦ absurd (none-some cost new.1)
-      | inl kept ↦ elim (get-more v.groups group n g e) [
-        | inl old ↦ are.costs g n cost old kept
-        | inr new ↦ absurd (let lt = slice_get_within v.costs n (Some cost) kept in let l = are.as_many in let at = new.0 in let bad : ⊥ = omega arith in bad)
+    as_many = (let l1 = length-append v.greedy (None ∷ []) in let l2 = length-append v.groups (group ∷ []) in let l3 = are.as_many in omega arith);
+    greedy = λ g k h. elim (get-more v.greedy None h.number (Some k) h.kept) [
+      | inr new ↦ absurd (none-some k new.1)
+      | inl kept ↦ elim (get-more v.groups group h.number g h.has) [
+        | inl old ↦ are.greedy g k (record { number = h.number; has = old; kept = kept })
+        | inr new ↦ absurd (let lt = slice_get_within v.greedy h.number (Some k) kept in let l = are.as_many in let at = new.0 in let bad : ⊥ = omega arith in bad)
       ]
     ];
   }
 
-  -- greedy's cost of a group that has a number
-  pub numbers-cost : (group : List ℕ) (n cost : ℕ) → HasNumber v group n → cost ≡ greedy_cost p group → AreNumbers p (record v { costs = set v.costs n (Some cost) })
-  numbers-cost group n cost has is = record {
+  -- what greedy does over a group that has a number
+  pub numbers-greedy : (group : List ℕ) (n : ℕ) (k : Greedy) → HasNumber v group n → IsGreedyOf p group k → AreNumbers p (record v { greedy = set v.greedy n (Some k) })
+  numbers-greedy group n k has is = record {
     order = are.order;
     distinct = are.distinct;
     within = are.within;
     bounds = are.bounds;
-    as_many = length-set v.costs n (Some cost) ∙ are.as_many;
-    costs = λ g m c e at. elim (cases_order m n) [
+    as_many = length-set v.greedy n (Some k) ∙ are.as_many;
+    greedy = λ g other h. elim (cases_order h.number n) [
       | inl same ↦
-          (let is_cost : c ≡ cost = some-same c cost (get-set v.costs n (Some c) (Some cost) (ap (slice_get (set v.costs n (Some cost))) (sym same) ∙ at)) in
-          let is_group : g ≡ group = get-same v.groups n g group (ap (slice_get v.groups) (sym same) ∙ e) has in
-          is_cost ∙ is ∙ ap (greedy_cost p) (sym is_group))
-      | inr other ↦
-          (let ne : m ≢ n = elim other [ inl x ↦ omega arith | inr y ↦ omega arith ] in
-          are.costs g m c e (sym (get-set-other v.costs n m (Some cost) ne) ∙ at))
+          (let is_kept : other ≡ k = some-same other k (get-set v.greedy n (Some other) (Some k) (ap (slice_get (set v.greedy n (Some k))) (sym same) ∙ h.kept)) in
+          let is_group : g ≡ group = get-same v.groups n g group (ap (slice_get v.groups) (sym same) ∙ h.has) has in
+          subst (λ x. IsGreedyOf p x other) (sym is_group) (subst (IsGreedyOf p group) (sym is_kept) is))
+      | inr apart ↦
+          (let ne : h.number ≢ n = elim apart [ inl x ↦ omega arith | inr y ↦ omega arith ] in
+          are.greedy g other (record { number = h.number; has = h.has; kept = sym (get-set-other v.greedy n h.number (Some k) ne) ∙ h.kept }))
     ];
   }
 
@@ -234,19 +261,3 @@ keeps-none v g n e = e
 
 pub keeps-both : (a b c : Numbered) → KeepsNumbers a b → KeepsNumbers b c → KeepsNumbers a c
 keeps-both a b c ab bc g n e = bc g n (ab g n e)
-
--- ---- what an attempt to add leaves ----
-
-module _ (v : Numbered) (group : List ℕ) (b : ℕ) where
-  pub keeps-added : {E : Type 0} (r : Result ℕ E) (new : Numbered) → OnOk r (new ≡ with_group v group b) → OnErr r (new ≡ v) → KeepsNumbers v new
-  keeps-added (Ok n) new ok err = subst (KeepsNumbers v) (sym ok) (keeps-more v group b)
-  keeps-added (Err x) new ok err = subst (KeepsNumbers v) (sym err) (keeps-none v)
-
-  pub number-added : {E : Type 0} (r : Result ℕ E) (new : Numbered) → OnOk r (new ≡ with_group v group b) → IfOk r (λ n. n ≡ length v.groups) → IfOk r (HasNumber new group)
-  number-added (Ok n) new ok at = subst (λ (u : Numbered). HasNumber u group n) (sym ok) (number-more v group b n at)
-  number-added (Err x) new ok at = tt
-
-pub numbers-added : (p : Problem) (v : Numbered) → AreNumbers p v → (group : List ℕ) (b : ℕ) → is_entered v.groups group ≡ false → IsWithin p group → b ≡ bound p group → {E : Type 0} (r : Result ℕ E) (new : Numbered)
-    → OnOk r (new ≡ with_group v group b) → OnErr r (new ≡ v) → AreNumbers p new
-numbers-added p v are group b absent within is (Ok n) new ok err = subst (AreNumbers p) (sym ok) (numbers-more p v are group b absent within is)
-numbers-added p v are group b absent within is (Err x) new ok err = subst (AreNumbers p) (sym err) are

@@ -13,6 +13,9 @@ use seq_huff::Scratch;
 use seq_inst::{Answer, Group, Instance, part, splits, weight_of};
 use std::alloc::{AllocError, Global};
 
+/// The room that is made before greedy is asked, for the groups that its tree meets.
+const ROOM_FOR_GREEDY: u32 = 4096;
+
 /// A test that splits a group, with the numbers of the part that passes it and the part that fails it.
 #[derive(Clone, Copy, Debug, PartialEq, Eq)]
 pub struct Split {
@@ -99,7 +102,8 @@ impl Kept {
     {
         let number = numbers.number_of(scratch, inst, group)?;
         let splits = splits_of(alloc, scratch, numbers, inst, group)?;
-        let greedy = numbers.greedy_of(scratch, inst, group)?;
+        numbers.reserve(ROOM_FOR_GREEDY)?;
+        let greedy = numbers.greedy_of(scratch, inst, group);
         Ok(Kept {
             number,
             weight: weight_of(inst, group),

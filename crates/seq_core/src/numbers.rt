@@ -1,17 +1,23 @@
-//! Groups by number, with what was worked out of each: its bound, and what greedy costs over it once
-//! that was asked for. A search meets the same groups again and again by other tests, so each bound and
-//! each greedy cost is worked out once. Numbers go upwards from 0 in the order in which groups are met,
-//! so that whatever else an engine knows of groups can stand in lists by number.
-ghost use Rattle.std.specs.Prelude.{◌≡◌, ◌++◌, ◌∷◌, [], ◌<◌, ◌≤◌, false, length, slice_get, slice_set, IfOk, OnOk, OnErr, IfSome, IfNone, Some, None};
-ghost use Rattle.seq_theory.specs.Problem.{IsWithin};
+//! Groups by number, with what was worked out of each: its bound, and greedy's test and cost over it once
+//! these were asked for. A search meets the same groups again and again by other tests, so each of these
+//! is worked out once. Numbers go upwards from 0 in the order in which groups are met, so that whatever
+//! else an engine knows of groups can stand in lists by number.
+//!
+//! `reserve` takes the memory for so many more groups. `number_within` takes none: it gives numbers while
+//! that room lasts. A group that is met later has none, and what is asked of it is worked out afresh, each
+//! time; so a lack of room costs time and changes no answer.
+ghost use Rattle.std.specs.Prelude.{◌≡◌, ◌+◌, ◌-◌, ◌++◌, ◌∷◌, [], ◌<◌, ◌≤◌, false, max, length, slice_get, slice_set, IfOk, OnOk, OnErr, IfSome, IfNone, Some, None};
+ghost use Rattle.seq_theory.specs.Problem.{Problem, IsWithin, is_end};
 ghost use Rattle.seq_theory.specs.Bound.{bound as bound_by};
 ghost use Rattle.seq_theory.specs.Graph.{is_entered};
 ghost use Rattle.seq_theory.specs.Greedy.{greedy_cost as cost_of_greedy};
 ghost use Rattle.seq_huff.specs.Bounds.{greatest_cost};
 ghost use Rattle.seq_inst.specs.Instances.{problem_of};
 ghost use Rattle.seq_inst.specs.Members.{members};
-ghost use Rattle.seq_core.specs.Numbered.{HasNumber, AreNumbers, KeepsNumbers};
+ghost use Rattle.seq_core.specs.Choice.{AreEstimates};
+ghost use Rattle.seq_core.specs.Numbered.{HasNumber, HasGreedy, IsGreedyOf, AreNumbers, KeepsNumbers};
 
+use crate::greedy::{Estimates, Greedy, estimates_of};
 use crate::words::know_words;
 use indexmap::IndexMap;
 use seq_huff::{Order, Scratch, greedy_cost, ordered_bound};
@@ -26,29 +32,33 @@ pub struct Numbers {
     order: Order,
     /// The bound of each group by its words, in the order of numbers.
     bounds: IndexMap<[u64; 8], u64>,
-    /// What greedy costs over each group, by number.
-    costs: Vec<Option<u64>>,
+    /// Greedy's test and cost over each group, by number.
+    greedy: Vec<Option<Greedy>>,
+    /// How many more groups both lists have room for.
+    room: u32,
 }
 
 impl Model for Numbers {
-    ghost use Rattle.std.specs.Prelude.{◌≡◌, ◌^◌, ◌<◌, length, map};
-    ghost use Rattle.indexmap.specs.IndexMap.{keys, values};
+    ghost use Rattle.std.specs.Prelude.{◌≡◌, ◌+◌, ◌^◌, ◌<◌, ◌≤◌, length, map, vec_capacity};
+    ghost use Rattle.indexmap.specs.IndexMap.{keys, values, spare};
     ghost use Rattle.seq_core.specs.Words.{AreWords, classes_of};
     ghost use Rattle.seq_core.specs.Numbered.{Numbered};
 
     ghost Value = { Numbered };
 
-    ghost view = { λ m. record { order = m.order; groups = map classes_of (keys m.bounds); bounds = values m.bounds; costs = m.costs.items } };
+    ghost view = { λ m. record { order = m.order; groups = map classes_of (keys m.bounds); bounds = values m.bounds; greedy = m.greedy.items; room = m.room } };
 
     ghost invariant = { λ m. record {
       words : AreWords (keys m.bounds);
-      as_many : length m.costs.items ≡ length (keys m.bounds);
-      few : length m.costs.items < 2 ^ 32;
+      as_many : length m.greedy.items ≡ length (keys m.bounds);
+      few : length m.greedy.items + m.room < 2 ^ 32;
+      room_for_bounds : m.room ≤ spare m.bounds;
+      room_for_greedy : length m.greedy.items + m.room ≤ vec_capacity m.greedy;
     } };
 }
 
 impl Numbers {
-    /// No numbers yet.
+    /// No numbers yet, and no room.
     pub fn new(alloc: Global, inst: &Instance) -> Result<Numbers, AllocError>
         ensures numbers { IfOk result (AreNumbers (problem_of inst.now)) }
         ensures none { IfOk result (λ v. v.groups ≡ []) }
@@ -57,7 +67,8 @@ impl Numbers {
         Ok(Numbers {
             order,
             bounds: IndexMap::new(alloc),
-            costs: Vec::new(alloc),
+            greedy: Vec::new(alloc),
+            room: 0,
         })
     }
 
@@ -65,7 +76,7 @@ impl Numbers {
     pub fn len(&self) -> u32
         ensures { result ≡ length self.now.groups }
     {
-        self.costs.len() as u32
+        self.greedy.len() as u32
     }
 
     /// The group of the number.
@@ -87,24 +98,53 @@ impl Numbers {
         self.bounds[number as usize]
     }
 
-    /// What greedy costs over the group of the number, if it is kept.
-    pub(crate) fn cost_at(&self, number: u32) -> Option<u64>
+    /// What is kept of greedy at the number.
+    fn greedy_at(&self, number: u32) -> Option<Greedy>
         requires { number < length self.now.groups }
-        ensures { slice_get self.now.costs number ≡ Some result }
+        ensures { slice_get self.now.greedy number ≡ Some result }
     {
-        self.costs[number as usize]
+        self.greedy[number as usize]
     }
 
-    /// Keeps what greedy costs over the group of the number.
-    pub(crate) fn keep_cost(&mut self, number: u32, cost: u64)
-        requires { number < length self.old.groups }
-        ensures { self.new ≡ record self.old { costs = slice_set self.old.costs number (Some cost) } }
+    /// Greedy's test and cost over the group, where they are kept.
+    pub(crate) fn kept_greedy(&self, group: &Group) -> Option<Greedy>
+        ensures { IfSome result (HasGreedy self.now (members group.now)) }
     {
-        self.costs[number as usize] = Some(cost);
+        match self.find(group) {
+            Some(number) => self.greedy_at(number),
+            None => None,
+        }
+    }
+
+    /// Writes greedy's test and cost at the number.
+    fn write_greedy(&mut self, number: u32, greedy: Greedy)
+        requires { number < length self.old.groups }
+        ensures { self.new ≡ record self.old { greedy = slice_set self.old.greedy number (Some greedy) } }
+    {
+        self.greedy[number as usize] = Some(greedy);
+    }
+
+    /// Keeps greedy's test and cost over the group, where it has a number or there is room for one.
+    pub(crate) fn keep_greedy(
+        &mut self,
+        scratch: &mut Scratch,
+        inst: &Instance,
+        group: &Group,
+        greedy: Greedy,
+    )
+        requires numbers { AreNumbers (problem_of inst.now) self.old }
+        requires within { IsWithin (problem_of inst.now) (members group.now) }
+        requires greedy { IsGreedyOf (problem_of inst.now) (members group.now) greedy }
+        ensures numbers { AreNumbers (problem_of inst.now) self.new }
+        ensures keeps { KeepsNumbers self.old self.new }
+    {
+        if let Some(number) = self.number_within(scratch, inst, group) {
+            self.write_greedy(number, greedy);
+        }
     }
 
     /// The number of the group, if it has one.
-    fn find(&self, group: &Group) -> Option<u32>
+    pub fn find(&self, group: &Group) -> Option<u32>
         ensures found { IfSome result (HasNumber self.now (members group.now)) }
         ensures none { IfNone result (is_entered self.now.groups (members group.now) ≡ false) }
     {
@@ -115,23 +155,55 @@ impl Numbers {
         }
     }
 
-    /// Gives the group, which has no number, the next one. Room for greedy's cost is made first, so that
-    /// nothing has changed where the memory is short.
-    fn add(&mut self, group: &Group, bound: u64) -> Result<u32, AllocError>
-        requires { is_entered self.old.groups (members group.now) ≡ false }
-        ensures number { IfOk result (λ n. n ≡ length self.old.groups) }
-        ensures ok { OnOk result (self.new ≡ record self.old { groups = self.old.groups ++ members group.now ∷ []; bounds = self.old.bounds ++ bound ∷ []; costs = self.old.costs ++ None ∷ [] }) }
+    /// Makes room for so many more groups. It takes no memory where there is as much room. Where the
+    /// memory is short, nothing has changed.
+    pub fn reserve(&mut self, more: u32) -> Result<(), AllocError>
+        ensures ok { OnOk result (self.new ≡ record self.old { room = max self.old.room more }) }
         ensures err { OnErr result (self.new ≡ self.old) }
+        ensures numbers { (p : Problem) → AreNumbers p self.old → AreNumbers p self.new }
+        ensures keeps { KeepsNumbers self.old self.new }
+    {
+        if more <= self.room {
+            return Ok(());
+        }
+        if more > u32::MAX - self.len() {
+            return Err(AllocError);
+        }
+        self.bounds.reserve(more as usize)?;
+        self.greedy.reserve(more as usize)?;
+        self.room = more;
+        Ok(())
+    }
+
+    /// Gives the group, which has no number, the next one. There is room, so both lists take it.
+    fn add(&mut self, group: &Group, bound: u64) -> u32
+        requires absent { is_entered self.old.groups (members group.now) ≡ false }
+        requires room { 0 < self.old.room }
+        ensures number { result ≡ length self.old.groups }
+        ensures added { self.new ≡ record self.old { groups = self.old.groups ++ members group.now ∷ []; bounds = self.old.bounds ++ bound ∷ []; greedy = self.old.greedy ++ None ∷ []; room = self.old.room - 1 } }
     {
         know_words(group);
         let number = self.len();
-        if number == u32::MAX {
-            return Err(AllocError);
-        }
-        self.costs.reserve(1)?;
-        self.bounds.insert(group.0, bound)?;
-        let _ = self.costs.push(None);
-        Ok(number)
+        let _ = self.bounds.insert(group.0, bound);
+        let _ = self.greedy.push(None);
+        self.room -= 1;
+        number
+    }
+
+    /// Gives the group, which has no number, the next one, with its bound.
+    fn next_number(&mut self, scratch: &mut Scratch, inst: &Instance, group: &Group) -> u32
+        requires numbers { AreNumbers (problem_of inst.now) self.old }
+        requires within { IsWithin (problem_of inst.now) (members group.now) }
+        requires absent { is_entered self.old.groups (members group.now) ≡ false }
+        requires room { 0 < self.old.room }
+        ensures numbers { AreNumbers (problem_of inst.now) self.new }
+        ensures keeps { KeepsNumbers self.old self.new }
+        ensures number { HasNumber self.new (members group.now) result }
+        ensures room { self.new.room + length self.new.groups ≡ self.old.room + length self.old.groups }
+        ensures one { self.old.room ≤ self.new.room + 1 }
+    {
+        let bound = self.fresh_bound(scratch, inst, group);
+        self.add(group, bound)
     }
 
     /// The number of the group. One that has none gets the next one, with its bound.
@@ -150,8 +222,39 @@ impl Numbers {
         if let Some(number) = self.find(group) {
             return Ok(number);
         }
-        let bound = self.fresh_bound(scratch, inst, group);
-        self.add(group, bound)
+        self.reserve(1)?;
+        Ok(self.next_number(scratch, inst, group))
+    }
+
+    /// The number of the group. One that has none gets the next one, with its bound, while there is room.
+    /// It takes no memory.
+    pub fn number_within(
+        &mut self,
+        scratch: &mut Scratch,
+        inst: &Instance,
+        group: &Group,
+    ) -> Option<u32>
+        requires numbers { AreNumbers (problem_of inst.now) self.old }
+        requires within { IsWithin (problem_of inst.now) (members group.now) }
+        ensures numbers { AreNumbers (problem_of inst.now) self.new }
+        ensures keeps { KeepsNumbers self.old self.new }
+
+        // None comes only where the group has no number and no room is left.
+        ensures number { IfSome result (HasNumber self.new (members group.now)) }
+        ensures absent { IfNone result (is_entered self.old.groups (members group.now) ≡ false) }
+        ensures full { IfNone result (self.old.room ≡ 0) }
+
+        // A new number takes up the room of one.
+        ensures room { self.new.room + length self.new.groups ≡ self.old.room + length self.old.groups }
+        ensures one { self.old.room ≤ self.new.room + 1 }
+    {
+        if let Some(number) = self.find(group) {
+            return Some(number);
+        }
+        if self.room == 0 {
+            return None;
+        }
+        Some(self.next_number(scratch, inst, group))
     }
 
     /// The bound of the group, worked out afresh.
@@ -162,6 +265,16 @@ impl Numbers {
         ensures fits { result ≤ greatest_cost }
     {
         ordered_bound(scratch, &self.order, inst, group)
+    }
+
+    /// The estimates of the tests that split the group, which has two goals or more.
+    pub(crate) fn estimates(&self, inst: &Instance, group: &Group) -> Estimates
+        requires numbers { AreNumbers (problem_of inst.now) self.now }
+        requires within { IsWithin (problem_of inst.now) (members group.now) }
+        requires more { is_end (problem_of inst.now) (members group.now) ≡ false }
+        ensures { AreEstimates (problem_of inst.now) (members group.now) result }
+    {
+        estimates_of(&self.order, inst, group)
     }
 
     /// The bound of the group: the kept one, or worked out afresh. It gives no number.
@@ -177,6 +290,26 @@ impl Numbers {
         }
     }
 
+    /// The bound of the group, which gets a number where there is room.
+    pub(crate) fn bound_within(
+        &mut self,
+        scratch: &mut Scratch,
+        inst: &Instance,
+        group: &Group,
+    ) -> u64
+        requires numbers { AreNumbers (problem_of inst.now) self.old }
+        requires within { IsWithin (problem_of inst.now) (members group.now) }
+        ensures numbers { AreNumbers (problem_of inst.now) self.new }
+        ensures keeps { KeepsNumbers self.old self.new }
+        ensures value { result ≡ bound_by (problem_of inst.now) (members group.now) }
+        ensures fits { result ≤ greatest_cost }
+    {
+        match self.number_within(scratch, inst, group) {
+            Some(number) => self.bound_at(number),
+            None => self.fresh_bound(scratch, inst, group),
+        }
+    }
+
     /// What greedy costs over the group: the kept number, or worked out afresh. It gives no number.
     pub fn known_greedy(&self, scratch: &mut Scratch, inst: &Instance, group: &Group) -> u64
         requires numbers { AreNumbers (problem_of inst.now) self.now }
@@ -184,10 +317,8 @@ impl Numbers {
         ensures value { result ≡ cost_of_greedy (problem_of inst.now) (members group.now) }
         ensures fits { result ≤ greatest_cost }
     {
-        if let Some(number) = self.find(group) {
-            if let Some(cost) = self.cost_at(number) {
-                return cost;
-            }
+        if let Some(known) = self.kept_greedy(group) {
+            return known.cost;
         }
         greedy_cost(scratch, inst, group)
     }

@@ -1,51 +1,31 @@
-use Rattle.std.proofs.Common.{◌≡◌, ◌∙◌, ◌+◌, sym, ap, arith, subst, refl, Some, None}
-use Rattle.seq_theory.specs.Problem.{splits, splitting}
-use Rattle.seq_theory.specs.Bound.{step_sum, bound}
-use Rattle.seq_core.proofs.ChoiceLaws.{ChosenSoFar, chosen-more, chosen-all, chosen-some, greedy_test-is}
+use Rattle.std.proofs.Common.{◌≡◌, ◌<◌, ◌∙◌, arith}
+use Rattle.std.proofs.lemmas.List.{get_or_read}
 use Rattle.seq_inst.specs.Members.{members}
 use Rattle.seq_inst.specs.Instances.{problem_of}
-use Rattle.seq_huff.proofs.Written.{passing_below, passing-zero, passing-in, passing-out, passing-all}
+use Rattle.seq_theory.proofs.PartsRecursion.{splitting-there}
+use Rattle.seq_core.proofs.ChoiceLaws.{first-none, first-more, chosen-greedy}
 use Rattle.seq_core.proofs.numbers.Numbers.greedy_test.Goals as goal
-use Rattle.seq_core.proofs.numbers.Numbers.greedy_test.Goals.{then-splits, else-splits}
+
+pub bound_sum-sum-requires-clause-there : goal.bound_sum-sum-requires-clause-there
+bound_sum-sum-requires-clause-there c =
+    let t = splitting-there (problem_of c.args.inst.now) (members c.args.group.now) c.estimates-estimates.result.first c.estimates-estimates.ensures.first in
+    let n = c.args.inst.now.costs.ok.0 in
+    omega arith
 
 pub loop-test-init : goal.loop-test-init
-loop-test-init c =
-    let p = problem_of c.args.inst.now in
-    let xs = members c.args.group.now in
-    subst (λ l. ChosenSoFar (step_sum p (bound p) xs) l None) (sym (passing-zero (splits p xs))) refl
+loop-test-init c = first-none (problem_of c.args.inst.now) (members c.args.group.now) c.bound_sum-sum.new.self _ c.bound_sum-sum.ensures.numbers
+    (record { test = c.estimates-estimates.ensures.first; sum = c.bound_sum-sum.ensures.value })
 
 pub loop-test-preserved : goal.loop-test-preserved
 loop-test-preserved c =
-    let p = problem_of c.args.inst.now in
-    let xs = members c.args.group.now in
-    let f = step_sum p (bound p) xs in
-    let more = passing_below (splits p xs) (c.loop-test.test + 1) in
-    let i : ChosenSoFar f (passing_below (splits p xs) c.loop-test.test) c.loop-test.chosen = c.loop-test.invariant in
-    elim c.if-splits.branch [
-      | then-splits w ↦
-          (let next = chosen-more f (passing_below (splits p xs) c.loop-test.test) more c.loop-test.test w.bound_sum-sum.result c.loop-test.chosen i (passing-in (splits p xs) c.loop-test.test (sym c.splits.ensures ∙ w.if-splits.true)) w.bound_sum-sum.ensures in
-          subst (ChosenSoFar f more) (ap (λ n. Some n) (sym w.choose.ensures) ∙ sym w.chosen-is) next)
-      | else-splits w ↦
-          subst (ChosenSoFar f more) (sym w.chosen-is)
-          (subst (λ l. ChosenSoFar f l c.loop-test.chosen) (sym (passing-out (splits p xs) c.loop-test.test (sym c.splits.ensures ∙ w.if-splits.false))) i)
-    ]
+    first-more (problem_of c.args.inst.now) (members c.args.group.now) _ c.loop-test.self c.better-chosen.new.self c.loop-test.test c.loop-test.chosen c.better-chosen.result c.loop-test.invariant
+    c.better-chosen.ensures.numbers c.better-chosen.ensures.keeps c.better-chosen.ensures.evaluated c.better-chosen.ensures.earlier c.better-chosen.ensures.test
 
-pub unreachable-requires : goal.unreachable-requires
-unreachable-requires c =
-    let p = problem_of c.args.inst.now in
-    let xs = members c.args.group.now in
-    let f = step_sum p (bound p) xs in
-    let n = c.len-tests.ensures ∙ c.args.inst.now.costs.ok.0 in
-    let e : c.loop-test.test ≡ p.tests = omega arith in
-    let i : ChosenSoFar f (splitting p xs) c.loop-test.chosen = subst (λ l. ChosenSoFar f l c.loop-test.chosen) (ap (passing_below (splits p xs)) e ∙ passing-all (splits p xs) p.tests) c.loop-test.invariant in
-    chosen-some p f xs c.args.inst.now.valid.told c.requires.within c.requires.more (subst (ChosenSoFar f (splitting p xs)) c.in-None.is i)
+pub returns-clause-keeps : goal.returns-clause-keeps
+returns-clause-keeps c g n e = c.loop-test.invariant.keeps g n (c.bound_sum-sum.ensures.keeps g n e)
 
-pub returns : goal.returns
-returns c =
-    let p = problem_of c.args.inst.now in
-    let xs = members c.args.group.now in
-    let f = step_sum p (bound p) xs in
+pub returns-clause-test : goal.returns-clause-test
+returns-clause-test c =
     let n = c.len-tests.ensures ∙ c.args.inst.now.costs.ok.0 in
-    let e : c.loop-test.test ≡ p.tests = omega arith in
-    let i : ChosenSoFar f (splitting p xs) c.loop-test.chosen = subst (λ l. ChosenSoFar f l c.loop-test.chosen) (ap (passing_below (splits p xs)) e ∙ passing-all (splits p xs) p.tests) c.loop-test.invariant in
-    greedy_test-is p xs _ (chosen-all f (splitting p xs) c.in-Some.chosen (subst (ChosenSoFar f (splitting p xs)) c.in-Some.is i))
+    let past = c.loop-test-test.false in
+    chosen-greedy (problem_of c.args.inst.now) (members c.args.group.now) c.loop-test.chosen c.loop-test.invariant.is (λ t lt s. c.loop-test.invariant.each t (omega arith) s)

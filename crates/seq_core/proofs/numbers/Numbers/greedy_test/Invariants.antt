@@ -1,10 +1,7 @@
-use Rattle.seq_theory.specs.Problem.{splits}
-use Rattle.seq_theory.specs.Bound.{step_sum, bound}
 use Rattle.seq_inst.specs.Members.{members}
 use Rattle.seq_inst.specs.Instances.{problem_of}
-use Rattle.seq_huff.proofs.Written.{passing_below}
-use Rattle.seq_core.proofs.ChoiceLaws.{ChosenSoFar}
+use Rattle.seq_core.proofs.ChoiceLaws.{FirstSoFar}
 use Rattle.seq_core.proofs.numbers.Numbers.greedy_test.Given as goal
 
 abbrev pub invariant-loop-test : goal.invariant-loop-test
-invariant-loop-test l = ChosenSoFar (step_sum (problem_of l.inst) (bound (problem_of l.inst)) (members l.group)) (passing_below (splits (problem_of l.inst) (members l.group)) l.test) l.chosen
+invariant-loop-test l = FirstSoFar (problem_of l.inst) (members l.group) l.initial.self l.self l.test l.chosen
