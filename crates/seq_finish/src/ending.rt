@@ -65,20 +65,20 @@ pub fn finish(
     ensures short { IfOk result (λ o. height (tree_of o.strategy) ≤ 512) }
 {
     let numbers = Numbers::new(alloc, inst)?;
-    finish_by(alloc, inst, &numbers, limit, rows, missed)
+    finish_by(alloc, inst, numbers, limit, rows, missed)
 }
 
-/// The same outcome, for a search that has numbers: bounds and greedy's costs that it has worked out are
-/// taken from them, and only others are worked out here.
+/// The same outcome, for a search that has numbers: bounds, and greedy's costs and tests, that it has
+/// worked out are taken from them, and only others are worked out here.
 pub fn finish_by(
     alloc: Global,
     inst: &Instance,
-    numbers: &Numbers,
+    mut numbers: Numbers,
     limit: u32,
     rows: Vec<Row>,
     missed: Option<Group>,
 ) -> Result<Outcome, AllocError>
-    requires numbers { AreNumbers (problem_of inst.now) numbers.now }
+    requires numbers { AreNumbers (problem_of inst.now) numbers }
     requires sound { IsSound (problem_of inst.now) limit (rows_from rows.items) }
     requires root { is_end (problem_of inst.now) (all_classes (problem_of inst.now)) ≡ false → is_entered (groups_in rows.items) (all_classes (problem_of inst.now)) ≡ true }
     requires stopped { MayStop (problem_of inst.now) limit (groups_in rows.items) missed }
@@ -92,14 +92,14 @@ pub fn finish_by(
     ensures short { IfOk result (λ o. height (tree_of o.strategy) ≤ 512) }
 {
     let mut scratch = Scratch::new();
-    let rows = settle(alloc, &mut scratch, inst, numbers, rows.as_slice())?;
+    let rows = settle(alloc, &mut scratch, inst, &numbers, rows.as_slice())?;
     let places = index_of(alloc, rows.as_slice())?;
     let all = root(inst);
     let strategy = strategy_of(
         alloc,
         &mut scratch,
         inst,
-        numbers,
+        &mut numbers,
         rows.as_slice(),
         &places,
         &all,

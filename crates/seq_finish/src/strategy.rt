@@ -1,7 +1,7 @@
 //! The strategy of the entered groups. Where greedy costs a group's value, greedy's whole tree is taken,
 //! even where another test reaches the value too; else the lowest test that reaches it is asked, and so
-//! on in both parts. The values stand in the rows, and greedy's costs in the numbers where the search has
-//! asked for them. Greedy's tree itself is not kept, so it is chosen anew, bounds and all, where it is taken.
+//! on in both parts. The values stand in the rows, and greedy's costs and tests in the numbers where the
+//! search has asked for them; others are worked out here, and kept as long as the numbers have room.
 ghost use Rattle.std.specs.Prelude.{◌≡◌, ◌≢◌, ◌<◌, false, All, IfOk, IsSome, vec_len};
 ghost use Rattle.seq_theory.specs.Problem.{IsWithin, is_end, weight_of as weight_sum};
 ghost use Rattle.seq_theory.specs.Greedy.{greedy_cost as cost_of_greedy};
@@ -16,7 +16,7 @@ ghost use Rattle.seq_finish.specs.Outcomes.{IsSettled};
 
 use crate::places::value_of;
 use seq_core::{Numbers, Places};
-use seq_huff::{Scratch, greedy};
+use seq_huff::Scratch;
 use seq_inst::{
     Answer, Group, Instance, Row, Strategy, ask_first, is_leaf, part, splits, weight_of,
 };
@@ -78,17 +78,18 @@ pub(crate) fn strategy_of(
     alloc: Global,
     scratch: &mut Scratch,
     inst: &Instance,
-    numbers: &Numbers,
+    numbers: &mut Numbers,
     rows: &[Row],
     places: &Places,
     group: &Group,
 ) -> Result<Strategy, AllocError>
-    requires numbers { AreNumbers (problem_of inst.now) numbers.now }
+    requires numbers { AreNumbers (problem_of inst.now) numbers.old }
     requires placed { places.now.placed ≡ numbered 0 rows.now }
     requires settled { All (IsSettled (problem_of inst.now) (groups_in rows.now)) rows.now }
     requires within { IsWithin (problem_of inst.now) (members group.now) }
     requires valued { IsSome (val (problem_of inst.now) (groups_in rows.now) (members group.now)) }
-    ensures { IfOk result (λ s. tree_of s ≡ strat (problem_of inst.now) (groups_in rows.now) (members group.now)) }
+    ensures numbers { AreNumbers (problem_of inst.now) numbers.new }
+    ensures strategy { IfOk result (λ s. tree_of s ≡ strat (problem_of inst.now) (groups_in rows.now) (members group.now)) }
 {
     if is_leaf(inst, group) {
         return Ok(Strategy::Leaf);
@@ -97,8 +98,8 @@ pub(crate) fn strategy_of(
         Some(value) => value,
         None => unreachable!(),
     };
-    if numbers.known_greedy(scratch, inst, group) == value {
-        return greedy(alloc, scratch, inst, group);
+    if numbers.greedy_of(scratch, inst, group) == value {
+        return numbers.greedy_tree(alloc, scratch, inst, group);
     }
     let test = value_test(inst, rows, places, group, value);
     let pass_part = part(inst, group, test, Answer::Pass);

@@ -69,7 +69,7 @@ fn two_faults_need_one_group(rt: HostRuntime) -> Result<(), Fail> {
     } = solve_alone(alloc, &inst, 4096)?;
     assert_eq!(rt; rows.len(), 1);
     assert!(rt; missed.is_none());
-    let outcome = finish_by(alloc, &inst, &numbers, 4096, rows, missed)?;
+    let outcome = finish_by(alloc, &inst, numbers, 4096, rows, missed)?;
     assert_eq!(rt; outcome.verdict, Verdict::Optimal);
     assert_eq!(rt; outcome.cost, 27);
     assert_eq!(rt; cost_of(&inst, &outcome.strategy, &root(&inst)), 27);
@@ -85,7 +85,7 @@ fn a_star_within_four_groups(rt: HostRuntime) -> Result<(), Fail> {
         missed,
         numbers,
     } = solve_alone(alloc, &inst, 4)?;
-    let outcome = finish_by(alloc, &inst, &numbers, 4, rows, missed)?;
+    let outcome = finish_by(alloc, &inst, numbers, 4, rows, missed)?;
     assert_eq!(rt; outcome.verdict, Verdict::Bounded);
     assert_eq!(rt; outcome.cost, 14);
     assert_eq!(rt; outcome.low, 13);
@@ -108,7 +108,7 @@ fn a_star_within_five_groups(rt: HostRuntime) -> Result<(), Fail> {
         numbers,
     } = solve_alone(alloc, &inst, 5)?;
     assert!(rt; missed.is_none());
-    let outcome = finish_by(alloc, &inst, &numbers, 5, rows, missed)?;
+    let outcome = finish_by(alloc, &inst, numbers, 5, rows, missed)?;
     assert_eq!(rt; outcome.verdict, Verdict::Optimal);
     assert_eq!(rt; outcome.cost, 14);
     assert_eq!(rt; outcome.low, 14);
@@ -125,7 +125,7 @@ fn two_halves_within_two_groups(rt: HostRuntime) -> Result<(), Fail> {
         missed,
         numbers,
     } = solve_alone(alloc, &inst, 2)?;
-    let outcome = finish_by(alloc, &inst, &numbers, 2, rows, missed)?;
+    let outcome = finish_by(alloc, &inst, numbers, 2, rows, missed)?;
     assert_eq!(rt; outcome.verdict, Verdict::Bounded);
     assert_eq!(rt; outcome.cost, 26);
     assert_eq!(rt; outcome.low, 25);

@@ -52,7 +52,7 @@ fn outcome_of(alloc: Global, inst: &Instance, groups: u32) -> Result<Outcome, Al
         missed,
         numbers,
     } = solve_alone(alloc, inst, groups)?;
-    finish_by(alloc, inst, &numbers, groups, rows, missed)
+    finish_by(alloc, inst, numbers, groups, rows, missed)
 }
 
 /// The report of a strategy for the system of the matrix.

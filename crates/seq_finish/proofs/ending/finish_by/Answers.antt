@@ -81,7 +81,7 @@ returns-clause-there c =
     let rows = c.args.rows.items in
     let items : c.in_ok-rows.rows.items ≡ settled_rows p rows = c.in_ok-rows.ensures ∙ ap (settled_rows p) c.as_slice.ensures.value in
     let same2 : groups_in c.as_slice-3.result.now ≡ groups_in rows = ap groups_in (c.as_slice-3.ensures.value ∙ items) ∙ settled-entered p rows in
-    (outcome-shape c.args.inst.now (groups_in rows) (tree_of c.in_ok-strategy.strategy) c.requires.root (c.in_ok-strategy.ensures ∙ ap (λ g. strat p g (members c.root-all.result)) same2 ∙ ap (strat p (groups_in rows)) c.root-all.ensures)).there
+    (outcome-shape c.args.inst.now (groups_in rows) (tree_of c.in_ok-strategy.strategy) c.requires.root (c.in_ok-strategy.ensures.strategy ∙ ap (λ g. strat p g (members c.root-all.result)) same2 ∙ ap (strat p (groups_in rows)) c.root-all.ensures)).there
 
 pub returns-clause-right : goal.returns-clause-right
 returns-clause-right c =
@@ -91,7 +91,7 @@ returns-clause-right c =
     let same2 : groups_in c.as_slice-3.result.now ≡ groups_in rows = ap groups_in (c.as_slice-3.ensures.value ∙ items) ∙ settled-entered p rows in
     let same3 : groups_in c.as_slice-4.result.now ≡ groups_in rows = ap groups_in (c.as_slice-4.ensures.value ∙ items) ∙ settled-entered p rows in
     outcome-right p c.args.limit rows c.args.missed _ c.requires.sound c.requires.root c.requires.stopped items
-    (c.in_ok-strategy.ensures ∙ ap (λ g. strat p g (members c.root-all.result)) same2 ∙ ap (strat p (groups_in rows)) c.root-all.ensures)
+    (c.in_ok-strategy.ensures.strategy ∙ ap (λ g. strat p g (members c.root-all.result)) same2 ∙ ap (strat p (groups_in rows)) c.root-all.ensures)
     (sym (ap (λ g. val p g (members c.root-all.result)) same3 ∙ ap (val p (groups_in rows)) c.root-all.ensures) ∙ c.bounds_of-bounds.ensures.cost)
     (c.bounds_of-bounds.ensures.low ∙ ap (λ g. low p g (members c.root-all.result)) same3 ∙ ap (low p (groups_in rows)) c.root-all.ensures)
     refl c.verdict_of-verdict.ensures.0 c.verdict_of-verdict.ensures.1 c.still_missed.ensures.optimal c.still_missed.ensures.bounded
@@ -102,7 +102,7 @@ returns-clause-splitting c =
     let rows = c.args.rows.items in
     let items : c.in_ok-rows.rows.items ≡ settled_rows p rows = c.in_ok-rows.ensures ∙ ap (settled_rows p) c.as_slice.ensures.value in
     let same2 : groups_in c.as_slice-3.result.now ≡ groups_in rows = ap groups_in (c.as_slice-3.ensures.value ∙ items) ∙ settled-entered p rows in
-    (outcome-shape c.args.inst.now (groups_in rows) (tree_of c.in_ok-strategy.strategy) c.requires.root (c.in_ok-strategy.ensures ∙ ap (λ g. strat p g (members c.root-all.result)) same2 ∙ ap (strat p (groups_in rows)) c.root-all.ensures)).splitting
+    (outcome-shape c.args.inst.now (groups_in rows) (tree_of c.in_ok-strategy.strategy) c.requires.root (c.in_ok-strategy.ensures.strategy ∙ ap (λ g. strat p g (members c.root-all.result)) same2 ∙ ap (strat p (groups_in rows)) c.root-all.ensures)).splitting
 
 pub returns-clause-leaves : goal.returns-clause-leaves
 returns-clause-leaves c =
@@ -110,7 +110,7 @@ returns-clause-leaves c =
     let rows = c.args.rows.items in
     let items : c.in_ok-rows.rows.items ≡ settled_rows p rows = c.in_ok-rows.ensures ∙ ap (settled_rows p) c.as_slice.ensures.value in
     let same2 : groups_in c.as_slice-3.result.now ≡ groups_in rows = ap groups_in (c.as_slice-3.ensures.value ∙ items) ∙ settled-entered p rows in
-    (outcome-shape c.args.inst.now (groups_in rows) (tree_of c.in_ok-strategy.strategy) c.requires.root (c.in_ok-strategy.ensures ∙ ap (λ g. strat p g (members c.root-all.result)) same2 ∙ ap (strat p (groups_in rows)) c.root-all.ensures)).leaves
+    (outcome-shape c.args.inst.now (groups_in rows) (tree_of c.in_ok-strategy.strategy) c.requires.root (c.in_ok-strategy.ensures.strategy ∙ ap (λ g. strat p g (members c.root-all.result)) same2 ∙ ap (strat p (groups_in rows)) c.root-all.ensures)).leaves
 
 pub returns-clause-short : goal.returns-clause-short
 returns-clause-short c =
@@ -118,4 +118,4 @@ returns-clause-short c =
     let rows = c.args.rows.items in
     let items : c.in_ok-rows.rows.items ≡ settled_rows p rows = c.in_ok-rows.ensures ∙ ap (settled_rows p) c.as_slice.ensures.value in
     let same2 : groups_in c.as_slice-3.result.now ≡ groups_in rows = ap groups_in (c.as_slice-3.ensures.value ∙ items) ∙ settled-entered p rows in
-    (outcome-shape c.args.inst.now (groups_in rows) (tree_of c.in_ok-strategy.strategy) c.requires.root (c.in_ok-strategy.ensures ∙ ap (λ g. strat p g (members c.root-all.result)) same2 ∙ ap (strat p (groups_in rows)) c.root-all.ensures)).short
+    (outcome-shape c.args.inst.now (groups_in rows) (tree_of c.in_ok-strategy.strategy) c.requires.root (c.in_ok-strategy.ensures.strategy ∙ ap (λ g. strat p g (members c.root-all.result)) same2 ∙ ap (strat p (groups_in rows)) c.root-all.ensures)).short
