@@ -1,12 +1,13 @@
 -- The least sum over the splitting tests, test by test.
 use Rattle.std.proofs.Common.{◌≡◌, ℕ, ◌+◌, ◌<◌, ◌≤◌, List, [], ◌∷◌, map, refl, sym, ap, subst, ◌∙◌, arith, inl, inr, ◌⊎◌}
-use Rattle.std.specs.Prelude.{Bool, true, false, nat_le, filter}
-use Rattle.std.proofs.lemmas.Bool.{cases_lt, false≢true, true≢false}
+use Rattle.std.specs.Prelude.{Bool, true, false, cond, nat_le, filter, unwrap_or, is_some, Option, Some, None}
+use Rattle.std.proofs.lemmas.Bool.{cases_lt, false≢true, true≢false, leb-true, leb-false}
 use Rattle.std.proofs.lemmas.Bool.Decides.{nat_tests}
-use Rattle.seq_theory.specs.Problem.{Problem, IsIn, count_up, splits, splitting, least_of}
+use Rattle.seq_theory.specs.Problem.{Problem, IsIn, count_up, pass_part, fail_part, is_end, splits, splitting, least_of}
 use Rattle.seq_theory.specs.Bound.{bound, step_sum}
-use Rattle.seq_theory.specs.Claims.{Claim, claimed}
+use Rattle.seq_theory.specs.Claims.{Claim, claim_of, claimed}
 use Rattle.seq_theory.proofs.GroupLaws.{IsIn-filter, filter-IsIn, filter_passes}
+use Rattle.seq_theory.proofs.GreedyLaws.{bound-end}
 use Rattle.seq_theory.proofs.LeastLaws.{IsIn-count_up, count_up-IsIn, least_of-le, least_of-found}
 use Rattle.seq_check.specs.GroupLooks.{most_claimed}
 
@@ -37,8 +38,9 @@ module _ (p : Problem) (claims : List Claim) (group : List ℕ) (low : ℕ) wher
   pub by_bound : low ≤ bound p group → true ≡ nat_le low (most_claimed p claims group)
   by_bound le = le-true low (most_claimed p claims group) (omega arith)
 
-  pub some_below : (t : ℕ) → bound p group < low → t < p.tests → splits p group t ≡ true → step_sum p (claimed p claims) group t < low → false ≡ nat_le low (most_claimed p claims group)
-  some_below t above there s lt =
+  pub some_below : (t : ℕ) → bound p group < low → t < p.tests → splits p group t ≡ true → nat_le low (step_sum p (claimed p claims) group t) ≡ false → false ≡ nat_le low (most_claimed p claims group)
+  some_below t above there s below =
+      let lt : step_sum p (claimed p claims) group t < low = leb-false low (step_sum p (claimed p claims) group t) below in
       let l = least_of-le (step_sum p (claimed p claims) group) t (splitting p group) (is_in_splitting p group t there s) in
       lt-false low (most_claimed p claims group) (omega arith)
 
@@ -58,9 +60,9 @@ module _ (p : Problem) (l : List ℕ → ℕ) (group : List ℕ) (low : ℕ) whe
   pub sums_none : Sums p l group low 0 false
   sums_none = record { each = λ t lt s. absurd (let bad : ⊥ = omega arith in bad); there = λ e. absurd (false≢true e); none = λ e t lt. absurd (let bad : ⊥ = omega arith in bad) }
 
-  pub sums_more : (n : ℕ) (some : Bool) → n < p.tests → splits p group n ≡ true → low ≤ step_sum p l group n → Sums p l group low n some → Sums p l group low (n + 1) true
-  sums_more n some lt s le so_far = record {
-    each = λ t below st. elim (at_or_below t n below) [ inl e ↦ subst (λ k. low ≤ step_sum p l group k) e le | inr b ↦ so_far.each t b st ];
+  pub sums_more : (n : ℕ) (some : Bool) → n < p.tests → splits p group n ≡ true → nat_le low (step_sum p l group n) ≡ true → Sums p l group low n some → Sums p l group low (n + 1) true
+  sums_more n some lt s reached so_far = record {
+    each = λ t below st. elim (at_or_below t n below) [ inl e ↦ subst (λ k. low ≤ step_sum p l group k) e (leb-true low (step_sum p l group n) reached) | inr b ↦ so_far.each t b st ];
     there = λ e. (n, lt, s);
     none = λ e. absurd (true≢false e);
   }
@@ -77,3 +79,23 @@ module _ (p : Problem) (l : List ℕ → ℕ) (group : List ℕ) (low : ℕ) whe
     where
       at_or_below : (t n : ℕ) → t < n + 1 → (n ≡ t) ⊎ (t < n)
       at_or_below t n lt = elim (cases_lt t n) [ inl below ↦ inr below | inr ge ↦ (let e : n ≡ t = omega arith in inl e) ]
+
+-- a part that isn't listed counts its bound
+unlisted : (p : Problem) (claims : List Claim) (group : List ℕ) → claim_of claims group ≡ None → claimed p claims group ≡ bound p group
+unlisted p claims group none = go (is_end p group) refl
+  where
+    go : (b : Bool) → is_end p group ≡ b → claimed p claims group ≡ bound p group
+    go true e = ap (λ b. cond b 0 (unwrap_or (claim_of claims group) (bound p group))) e ∙ sym (bound-end p group e)
+    go false e = ap (λ b. cond b 0 (unwrap_or (claim_of claims group) (bound p group))) e ∙ ap (λ o. unwrap_or o (bound p group)) none
+
+none_is : (o : Option ℕ) → is_some o ≡ false → o ≡ None
+none_is None e = refl
+none_is (Some x) e = absurd (true≢false e)
+
+-- where neither part of a test is listed, a low that is at most the sum over their bounds is reached
+pub bounds_reach : (p : Problem) (claims : List Claim) (group : List ℕ) (t low : ℕ) (pass fail : Option ℕ) → pass ≡ claim_of claims (pass_part p t group) → fail ≡ claim_of claims (fail_part p t group)
+    → is_some pass ≡ false → is_some fail ≡ false → low ≤ step_sum p (bound p) group t → true ≡ nat_le low (step_sum p (claimed p claims) group t)
+bounds_reach p claims group t low pass fail pass_is fail_is no_pass no_fail le =
+    let a = unlisted p claims (pass_part p t group) (sym pass_is ∙ none_is pass no_pass) in
+    let b = unlisted p claims (fail_part p t group) (sym fail_is ∙ none_is fail no_fail) in
+    le-true low (step_sum p (claimed p claims) group t) (omega arith)

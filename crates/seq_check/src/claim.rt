@@ -1,12 +1,16 @@
 //! C07: whether a group line claims no more than its group's bound and the other lines allow. A listed
 //! part counts by the low that its first line claims, whatever its bound; that low may be any number, so
-//! the sums are of 128 bits.
-ghost use Rattle.std.specs.Prelude.{◌≡◌, ◌<◌, List, nat_le, vec_len};
-ghost use Rattle.seq_theory.specs.Problem.{IsWithin, weight_of as weight_sum};
-ghost use Rattle.seq_theory.specs.Bound.{step_sum};
-ghost use Rattle.seq_theory.specs.Claims.{claimed};
+//! the sums are of 128 bits. A part that isn't listed counts by its bound, which costs far more than a
+//! look-up; so where neither part of a test is listed, an estimate of the sum that takes no bound comes
+//! first, and where it is as much as the line claims, it is enough.
+ghost use Rattle.std.specs.Prelude.{◌≡◌, ◌<◌, List, true, cond, nat_le, unwrap_or, vec_len};
+ghost use Rattle.seq_theory.specs.Problem.{IsWithin, is_end, splits as is_split, weight_of as weight_sum};
+ghost use Rattle.seq_theory.specs.Bound.{bound as bound_of, step_sum};
+ghost use Rattle.seq_theory.specs.Claims.{claim_of, claimed};
 ghost use Rattle.seq_inst.specs.Members.{members};
 ghost use Rattle.seq_inst.specs.Instances.{problem_of};
+ghost use Rattle.seq_huff.specs.Orders.{IsOrderOf};
+ghost use Rattle.seq_huff.specs.Estimates.{IsEstimateOf};
 ghost use Rattle.seq_cert.specs.declared.report.GroupLine.{GroupLine as Line};
 ghost use Rattle.seq_check.specs.GroupLooks.{claims_of, most_claimed};
 ghost use Rattle.seq_check.specs.Listed.{AreLows};
@@ -14,59 +18,102 @@ ghost use Rattle.seq_check.specs.Listed.{AreLows};
 use crate::groups_alike::know_group;
 use crate::lows::Lows;
 use seq_cert::GroupLine;
-use seq_huff::{Scratch, bound};
+use seq_huff::{Estimate, Order, Scratch, ordered_bound};
 use seq_inst::{Answer, Group, Instance, is_leaf, part, splits, weight_of};
 
-/// What a part counts: 0 for one goal, the low of a listed group, and the bound of any other.
-fn counted(scratch: &mut Scratch, inst: &Instance, lows: &Lows, group: &Group) -> u64
-    requires { IsWithin (problem_of inst.now) (members group.now) }
-    ensures { (lines : List Line) → AreLows lows.now lines → result ≡ claimed (problem_of inst.now) (claims_of lines) (members group.now) }
+/// The low that the first line of the group claims, if it is listed.
+fn listed(lows: &Lows, group: &Group) -> Option<u64>
+    ensures { (lines : List Line) → AreLows lows.now lines → result ≡ claim_of (claims_of lines) (members group.now) }
 {
     know_group(group);
-    if is_leaf(inst, group) {
-        return 0;
-    }
     match lows.get(&group.0) {
-        Some(low) => *low,
-        None => bound(scratch, inst, group),
+        Some(low) => Some(*low),
+        None => None,
     }
 }
 
-/// What a first test costs over the group, of which the weight is known, with what its parts count.
-fn sum_of(
+/// What a part counts: 0 for one goal, the low of a listed group, and the bound of any other.
+fn counted(
     scratch: &mut Scratch,
+    order: &Order,
+    inst: &Instance,
+    group: &Group,
+    listed: Option<u64>,
+) -> u64
+    requires order { IsOrderOf (problem_of inst.now) order.now }
+    requires within { IsWithin (problem_of inst.now) (members group.now) }
+    ensures { result ≡ cond (is_end (problem_of inst.now) (members group.now)) 0 (unwrap_or listed (bound_of (problem_of inst.now) (members group.now))) }
+{
+    if is_leaf(inst, group) {
+        return 0;
+    }
+    match listed {
+        Some(low) => low,
+        None => ordered_bound(scratch, order, inst, group),
+    }
+}
+
+/// Whether what the test costs over the group, with what its parts count, is at least the low.
+fn is_reached(
+    scratch: &mut Scratch,
+    order: &Order,
     inst: &Instance,
     lows: &Lows,
+    estimate: &Estimate,
     group: &Group,
-    test: u32,
     weight: u64,
-) -> u128
+    test: u32,
+    low: u64,
+) -> bool
+    requires order { IsOrderOf (problem_of inst.now) order.now }
     requires within { IsWithin (problem_of inst.now) (members group.now) }
-    requires there { test < vec_len inst.now.costs }
+    requires estimate { IsEstimateOf (problem_of inst.now) (members group.now) estimate.now }
     requires weight { weight ≡ weight_sum (problem_of inst.now) (members group.now) }
-    ensures { (lines : List Line) → AreLows lows.now lines → result ≡ step_sum (problem_of inst.now) (claimed (problem_of inst.now) (claims_of lines)) (members group.now) test }
+    requires there { test < vec_len inst.now.costs }
+    requires splits { is_split (problem_of inst.now) (members group.now) test ≡ true }
+    ensures { (lines : List Line) → AreLows lows.now lines → result ≡ nat_le low (step_sum (problem_of inst.now) (claimed (problem_of inst.now) (claims_of lines)) (members group.now) test) }
 {
-    let pass = counted(scratch, inst, lows, &part(inst, group, test, Answer::Pass));
-    let fail = counted(scratch, inst, lows, &part(inst, group, test, Answer::Fail));
-    u128::from(inst.costs[test as usize]) * u128::from(weight)
-        + (u128::from(pass) + u128::from(fail))
+    let pass_part = part(inst, group, test, Answer::Pass);
+    let fail_part = part(inst, group, test, Answer::Fail);
+    let pass_low = listed(lows, &pass_part);
+    let fail_low = listed(lows, &fail_part);
+    if pass_low.is_none() && fail_low.is_none() {
+        if low <= estimate.least_sum(order, inst, group, test) {
+            return true;
+        }
+    }
+    let pass = counted(scratch, order, inst, &pass_part, pass_low);
+    let fail = counted(scratch, order, inst, &fail_part, fail_low);
+    let first = u128::from(inst.costs[test as usize]) * u128::from(weight);
+    u128::from(low) <= first + (u128::from(pass) + u128::from(fail))
 }
 
 /// Whether the line claims no more than is allowed. It takes the bound of its group first, and only then
 /// goes through the splitting tests, with two look-ups each.
-pub fn is_allowed(scratch: &mut Scratch, inst: &Instance, lows: &Lows, line: &GroupLine) -> bool
-    requires { IsWithin (problem_of inst.now) (members line.now.group) }
+pub fn is_allowed(
+    scratch: &mut Scratch,
+    order: &Order,
+    inst: &Instance,
+    lows: &Lows,
+    line: &GroupLine,
+) -> bool
+    requires order { IsOrderOf (problem_of inst.now) order.now }
+    requires within { IsWithin (problem_of inst.now) (members line.now.group) }
     ensures { (lines : List Line) → AreLows lows.now lines → result ≡ nat_le line.now.low (most_claimed (problem_of inst.now) (claims_of lines) (members line.now.group)) }
 {
-    if line.low <= bound(scratch, inst, &line.group) {
+    let group = &line.group;
+    if line.low <= ordered_bound(scratch, order, inst, group) {
         return true;
     }
-    let weight = weight_of(inst, &line.group);
+    let weight = weight_of(inst, group);
+    let estimate = Estimate::of(order, inst, group);
     let tests = inst.costs.len() as u32;
     let mut some = false;
     for test in 0..tests {
-        if splits(inst, &line.group, test) {
-            if sum_of(scratch, inst, lows, &line.group, test, weight) < u128::from(line.low) {
+        if splits(inst, group, test) {
+            if !is_reached(
+                scratch, order, inst, lows, &estimate, group, weight, test, line.low,
+            ) {
                 return false;
             }
             some = true;

@@ -1,9 +1,10 @@
 //! The group lines, one after another: at each first its size, classes and place (C06), then its low
 //! (C07), and at the last one whether it is the group of all classes (C08). A bound is taken only of a
-//! group whose classes are there. A line takes a look-up for each part by a splitting test, and a bound
-//! where the part is not listed.
+//! group whose classes are there. A line takes a look-up for each part by a splitting test, and at most a
+//! bound where the part is not listed.
 ghost use Rattle.std.specs.Prelude.{◌≡◌, ◌+◌, ◌^◌, ◌<◌, List, [], None, length, IsTrue};
 ghost use Rattle.seq_inst.specs.Instances.{problem_of};
+ghost use Rattle.seq_huff.specs.Orders.{IsOrderOf};
 ghost use Rattle.seq_cert.specs.declared.report.GroupLine.{GroupLine as Line};
 ghost use Rattle.seq_check.specs.Looks.{first_bad};
 ghost use Rattle.seq_check.specs.GroupLooks.{claims_of, group_look, group_looks};
@@ -15,13 +16,14 @@ use crate::looking::look;
 use crate::lows::Lows;
 use crate::sized::{does_follow, is_sized};
 use seq_cert::{BadCode, BadLine, GroupLine};
-use seq_huff::Scratch;
+use seq_huff::{Order, Scratch};
 use seq_inst::Instance;
 
 /// The first look at the line that is bad; `behind` are the lines after it.
 #[tactic(auto, unfolding(crate::specs::GroupLooks::group_look))]
 fn first_in_group(
     scratch: &mut Scratch,
+    order: &Order,
     inst: &Instance,
     lows: &Lows,
     low: u64,
@@ -30,12 +32,13 @@ fn first_in_group(
     behind: &[GroupLine],
     number: u32,
 ) -> Option<BadLine>
+    requires { IsOrderOf (problem_of inst.now) order.now }
     ensures { (lines : List Line) → AreLows lows.now lines → result ≡ first_bad (group_look (problem_of inst.now) number low (claims_of lines) before line.now behind.now) }
 {
     if !is_sized(inst, line.size, &line.group) || !does_follow(before, line) {
         return look(number, BadCode::C06, false);
     }
-    if !is_allowed(scratch, inst, lows, line) {
+    if !is_allowed(scratch, order, inst, lows, line) {
         return look(number, BadCode::C07, false);
     }
     if behind.is_empty() {
@@ -48,12 +51,14 @@ fn first_in_group(
 /// The first bad group line, the first of them on this line.
 pub fn first_in_groups(
     scratch: &mut Scratch,
+    order: &Order,
     inst: &Instance,
     lows: &Lows,
     low: u64,
     lines: &[GroupLine],
     line: u32,
 ) -> Option<BadLine>
+    requires order { IsOrderOf (problem_of inst.now) order.now }
     requires lows { AreLows lows.now lines.now }
     requires fits { line + length lines.now < 2 ^ 32 }
     ensures { result ≡ first_bad (group_looks (problem_of inst.now) line low (claims_of lines.now) None lines.now) }
@@ -63,6 +68,7 @@ pub fn first_in_groups(
         let number = line + at as u32;
         let bad = first_in_group(
             scratch,
+            order,
             inst,
             lows,
             low,

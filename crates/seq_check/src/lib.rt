@@ -6,8 +6,9 @@
 //! What a line costs: one of the head, of a class, a state or a test is one comparison with the model. An
 //! `ask` takes the weight and both parts of its group, and a `leaf` the class that it names. A group
 //! line takes, for each test that splits its group, two look-ups of a part, and for a part that isn't
-//! listed its bound, which sorts the weights of the part's classes and the costs of the tests that split
-//! it. So the group lines make up the time of a long certificate: at most 512 look-ups and 512 bounds each.
+//! listed its bound, unless a cheaper estimate shows that the sum is enough. The weights of the classes
+//! and the costs of the tests are put in order once, so that no bound sorts. The group lines make up the
+//! time of a long certificate: at most 512 look-ups and 512 bounds each.
 #![tactic(auto)]
 
 mod claim;

@@ -21,7 +21,7 @@ use crate::model::{first_in_classes, first_in_tests};
 use crate::places::{Places, places_of};
 use crate::tree::{Walked, walk};
 use seq_cert::{BadLine, Report, ReportFault};
-use seq_huff::Scratch;
+use seq_huff::{Order, Scratch};
 use seq_inst::{Instance, Verdict};
 use sig_lines::Labels;
 use std::alloc::{AllocError, Global};
@@ -41,8 +41,17 @@ fn first_from_groups(
 {
     let mut scratch = Scratch::new();
     let lines = report.groups.as_slice();
+    let order = Order::of(alloc, inst)?;
     let lows = lows_of(alloc, lines)?;
-    let bad = first_in_groups(&mut scratch, inst, &lows, report.low, lines, places.groups);
+    let bad = first_in_groups(
+        &mut scratch,
+        &order,
+        inst,
+        &lows,
+        report.low,
+        lines,
+        places.groups,
+    );
     if bad.is_some() {
         return Ok(bad);
     }
@@ -128,8 +137,9 @@ fn first_bad_line(
 /// The report's verdict, where no line is bad; else the first bad line with the lowest code that it
 /// breaks. Whoever made the report is not trusted.
 ///
-/// The work is at most that of the bounds of all listed groups and of their parts by splitting tests:
-/// for each group line two look-ups a splitting test, and a bound for each part that is not listed.
+/// The work is at most that of putting the weights and the costs in order once, and of the bounds of all
+/// listed groups and of their parts by splitting tests: for each group line two look-ups a splitting test,
+/// and at most a bound for each part that is not listed.
 pub fn check(
     alloc: Global,
     inst: &Instance,
