@@ -13,9 +13,9 @@ ghost use Rattle.seq_solo.specs.Steps.{least_test as least_test_of, ClosesBelow}
 
 use crate::choice::{Chosen, least_test, least_up};
 use crate::counts::count_new;
+use crate::look::{look, look_at_all};
 use crate::search::{Count, Search};
 use crate::sums::{leave_out, leave_out_waiting};
-use crate::waiting::look;
 use seq_core::Kept;
 use seq_huff::Scratch;
 use seq_inst::{Group, Instance, Row};
@@ -129,6 +129,7 @@ fn add(
         up: kept.greedy,
     })?;
     search.kept.push(kept)?;
+    search.looks.push(place + 1)?;
     Ok(())
 }
 
@@ -163,6 +164,7 @@ pub(crate) fn enter(
 {
     let place = search.rows.len();
     add(alloc, scratch, inst, search, group)?;
+    look_at_all(scratch, inst, search, place)?;
     refresh(scratch, inst, search, place)?;
     give_back(inst, search, place);
     Ok(())

@@ -17,6 +17,7 @@ mod choice;
 mod counts;
 mod events;
 mod found;
+mod look;
 mod search;
 mod sums;
 #[cfg(test)]

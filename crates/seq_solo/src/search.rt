@@ -28,6 +28,8 @@ pub(crate) struct Search {
     pub(crate) kept: Vec<Kept>,
     /// By number.
     pub(crate) counts: Vec<Count>,
+    /// How many rows there were when the tests of a group that wait were last looked through, by place.
+    pub(crate) looks: Vec<usize>,
 }
 
 impl Search {
@@ -42,6 +44,7 @@ impl Search {
             rows: Vec::new(alloc),
             kept: Vec::new(alloc),
             counts: Vec::new(alloc),
+            looks: Vec::new(alloc),
         })
     }
 }

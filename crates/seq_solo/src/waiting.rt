@@ -10,7 +10,7 @@ use crate::counts::count_new;
 use crate::search::Search;
 use seq_core::Waiting;
 use seq_huff::Scratch;
-use seq_inst::{Answer, Instance, part};
+use seq_inst::Instance;
 use std::alloc::AllocError;
 
 /// The place of the test that waits with the least number, if any waits.
@@ -60,52 +60,5 @@ pub(crate) fn evaluate(
     let group = search.rows[place].group;
     search.kept[place].evaluate(scratch, &mut search.numbers, inst, &group, at)?;
     count_new(inst, &search.numbers, &mut search.counts)?;
-    Ok(())
-}
-
-/// Whether the part of the group by the test has a number, and an up stands beside it.
-fn has_up(inst: &Instance, search: &Search, place: usize, test: u32, answer: Answer) -> bool
-    requires known { IsKnown (problem_of inst.now) search.now }
-    requires place { place < length search.now.rows.items }
-    requires there { test < length inst.now.costs.items }
-{
-    let part = part(inst, &search.rows[place].group, test, answer);
-    match search.numbers.find(&part) {
-        Some(number) => search.counts[number as usize].up != u64::MAX,
-        None => false,
-    }
-}
-
-/// Whether both parts by the test that waits at this place of the list have an up.
-fn is_valued(inst: &Instance, search: &Search, place: usize, at: usize) -> bool
-    requires known { IsKnown (problem_of inst.now) search.now }
-    requires place { place < length search.now.rows.items }
-    requires there { at < length (waiting_at search.now.kept.items place) }
-{
-    let test = search.kept[place].waiting[at].test;
-    has_up(inst, search, place, test, Answer::Pass)
-        && has_up(inst, search, place, test, Answer::Fail)
-}
-
-/// Evaluates the tests that wait though both of their parts have an up: they count for the group's up.
-pub(crate) fn look(
-    scratch: &mut Scratch,
-    inst: &Instance,
-    search: &mut Search,
-    place: usize,
-) -> Result<(), AllocError>
-    requires known { IsKnown (problem_of inst.now) search.old }
-    requires place { place < length search.old.rows.items }
-    ensures known { IfOk result (λ _. IsKnown (problem_of inst.now) search.new) }
-    ensures rows { IfOk result (λ _. search.new.rows.items ≡ search.old.rows.items) }
-{
-    let mut at = 0;
-    while at < search.kept[place].waiting.len() {
-        if is_valued(inst, search, place, at) {
-            evaluate(scratch, inst, search, place, at)?;
-        } else {
-            at += 1;
-        }
-    }
     Ok(())
 }

@@ -8,7 +8,7 @@ use Rattle.seq_theory.specs.Rows.{IsSound}
 use Rattle.seq_core.specs.RowsOf.{rows_of as rows_from}
 use Rattle.seq_core.specs.Settled.{groups_in}
 use Rattle.seq_solo.specs.Found.{BeginsWithAll, IsSolved, HasEnded}
-use Rattle.seq_solo.proofs.FoundLaws.{root-real, nothing-solved, walking-begins, root-entered, walking-sound, solved, may-stop, closed-read, stopped-same}
+use Rattle.seq_solo.proofs.FoundLaws.{root-real, begun, nothing-solved, walking-begins, root-entered, walking-sound, solved, may-stop, closed-read, stopped-same}
 use Rattle.seq_solo.proofs.alone.solve_alone.Goals as goal
 
 pub returns-then-is_leaf-clause-ended : goal.returns-then-is_leaf-clause-ended
@@ -29,6 +29,12 @@ returns-then-is_leaf-clause-numbers c = let p = problem_of c.args.inst.now in su
 
 pub enter-requires-clause-real : goal.enter-requires-clause-real
 enter-requires-clause-real c = root-real (problem_of c.args.inst.now) c.root-all.result c.root-all.ensures (sym c.is_leaf.ensures ∙ c.if-is_leaf.false)
+
+pub turns-init : goal.turns-init
+turns-init c = record {
+  known = c.in_ok-enter.ensures.known;
+  walk = begun (problem_of c.args.inst.now) c.args.limit c.root-all.result c.in_ok-search.search.rows.items c.enter.new.search.rows.items c.requires.some c.root-all.ensures c.in_ok-search.ensures.rows c.in_ok-enter.ensures.known.rows_are c.in_ok-enter.ensures.narrows;
+}
 
 pub returns-clause-sound : goal.returns-clause-sound
 returns-clause-sound c =
@@ -67,3 +73,10 @@ returns-in-Some-clause-root c = λ more.
     let rows = c.turns.search.rows.items in
     let same = stopped-same p c.args.limit rows c.turn.new.search.rows.items c.in_ok-missed.field-0 c.in-Some.missed c.in_ok-missed.ensures.turned c.in-Some.is in
     subst (λ l. is_entered (groups_in l) (all_classes p) ≡ true) (sym (c.found_by-in-Some.ensures.rows ∙ same)) (root-entered p rows (walking-begins p c.args.limit rows more c.turns.invariant.walk) more)
+
+pub returns-in-Some-clause-first : goal.returns-in-Some-clause-first
+returns-in-Some-clause-first c =
+    let p = problem_of c.args.inst.now in
+    let rows = c.turns.search.rows.items in
+    let same = stopped-same p c.args.limit rows c.turn.new.search.rows.items c.in_ok-missed.field-0 c.in-Some.missed c.in_ok-missed.ensures.turned c.in-Some.is in
+    subst (BeginsWithAll p) (sym (c.found_by-in-Some.ensures.rows ∙ same)) (walking-begins p c.args.limit rows (sym (ap (is_end p) c.root-all.ensures) ∙ sym c.is_leaf.ensures ∙ c.if-is_leaf.false) c.turns.invariant.walk)

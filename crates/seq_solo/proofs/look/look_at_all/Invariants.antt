@@ -1,7 +1,7 @@
 use Rattle.std.proofs.Common.{◌≡◌, ◌-◌, length}
 use Rattle.seq_inst.specs.Instances.{problem_of}
 use Rattle.seq_solo.specs.Known.{IsKnown, waiting_at}
-use Rattle.seq_solo.proofs.waiting.look.Given as goal
+use Rattle.seq_solo.proofs.look.look_at_all.Given as goal
 
 abbrev pub invariant-loop-at : goal.invariant-loop-at
 invariant-loop-at l = record {

@@ -1,0 +1,169 @@
+//! Looks for tests that wait though both of their parts have an up, as those were entered by way of
+//! other tests. Such a test counts for the group's up, so it is evaluated. When a group is entered all
+//! tests that wait are looked at; later those alone that make a part that was entered since the last
+//! look, unless there are many.
+ghost use Rattle.std.specs.Prelude.{◌≡◌, ◌<◌, length, IfOk};
+ghost use Rattle.seq_inst.specs.Instances.{problem_of};
+ghost use Rattle.seq_solo.specs.Known.{IsKnown, waiting_at};
+
+use crate::search::Search;
+use crate::waiting::evaluate;
+use seq_huff::Scratch;
+use seq_inst::{Answer, Group, Instance, is_leaf, part};
+use std::alloc::AllocError;
+
+/// Up to so many entered groups are looked at one by one.
+const FEW: usize = 8;
+
+/// Whether the group has one goal, or a number beside which an up stands.
+fn has_up(inst: &Instance, search: &Search, group: &Group) -> bool
+    requires known { IsKnown (problem_of inst.now) search.now }
+{
+    match search.numbers.find(group) {
+        Some(number) => search.counts[number as usize].up != u64::MAX,
+        None => is_leaf(inst, group),
+    }
+}
+
+/// The part that passes the test that waits at this place of the list.
+fn pass_part(inst: &Instance, search: &Search, place: usize, at: usize) -> Group
+    requires known { IsKnown (problem_of inst.now) search.now }
+    requires place { place < length search.now.rows.items }
+    requires there { at < length (waiting_at search.now.kept.items place) }
+{
+    let test = search.kept[place].waiting[at].test;
+    part(inst, &search.rows[place].group, test, Answer::Pass)
+}
+
+/// The classes of a group that are not in the other.
+fn without(group: &Group, other: &Group) -> Group {
+    let mut words = [0; 8];
+    for i in 0..8 {
+        words[i] = group.0[i] & !other.0[i];
+    }
+    Group(words)
+}
+
+/// Evaluates the tests that wait though both of their parts have an up.
+pub(crate) fn look_at_all(
+    scratch: &mut Scratch,
+    inst: &Instance,
+    search: &mut Search,
+    place: usize,
+) -> Result<(), AllocError>
+    requires known { IsKnown (problem_of inst.now) search.old }
+    requires place { place < length search.old.rows.items }
+    ensures known { IfOk result (λ _. IsKnown (problem_of inst.now) search.new) }
+    ensures rows { IfOk result (λ _. search.new.rows.items ≡ search.old.rows.items) }
+{
+    let group = search.rows[place].group;
+    let mut at = 0;
+    while at < search.kept[place].waiting.len() {
+        let pass = pass_part(inst, search, place, at);
+        if has_up(inst, search, &pass) && has_up(inst, search, &without(&group, &pass)) {
+            evaluate(scratch, inst, search, place, at)?;
+        } else {
+            at += 1;
+        }
+    }
+    Ok(())
+}
+
+/// Evaluates the tests that wait and make these two parts.
+fn evaluate_those(
+    scratch: &mut Scratch,
+    inst: &Instance,
+    search: &mut Search,
+    place: usize,
+    one: &Group,
+    other: &Group,
+) -> Result<(), AllocError>
+    requires known { IsKnown (problem_of inst.now) search.old }
+    requires place { place < length search.old.rows.items }
+    ensures known { IfOk result (λ _. IsKnown (problem_of inst.now) search.new) }
+    ensures rows { IfOk result (λ _. search.new.rows.items ≡ search.old.rows.items) }
+{
+    let mut at = 0;
+    while at < search.kept[place].waiting.len() {
+        let pass = pass_part(inst, search, place, at);
+        if pass == *one || pass == *other {
+            evaluate(scratch, inst, search, place, at)?;
+        } else {
+            at += 1;
+        }
+    }
+    Ok(())
+}
+
+/// Evaluates the tests of a group that wait and make the part that was entered at another place, if the
+/// other part has an up too.
+fn look_at(
+    scratch: &mut Scratch,
+    inst: &Instance,
+    search: &mut Search,
+    place: usize,
+    entered: usize,
+) -> Result<(), AllocError>
+    requires known { IsKnown (problem_of inst.now) search.old }
+    requires place { place < length search.old.rows.items }
+    requires entered { entered < length search.old.rows.items }
+    ensures known { IfOk result (λ _. IsKnown (problem_of inst.now) search.new) }
+    ensures rows { IfOk result (λ _. search.new.rows.items ≡ search.old.rows.items) }
+{
+    let group = search.rows[place].group;
+    let one = search.rows[entered].group;
+    if without(&one, &group) != Group([0; 8]) {
+        return Ok(());
+    }
+    let other = without(&group, &one);
+    if has_up(inst, search, &other) {
+        evaluate_those(scratch, inst, search, place, &one, &other)?;
+    }
+    Ok(())
+}
+
+/// How many groups had rows at the last look at the group of the place.
+fn last_look(search: &Search, place: usize) -> usize {
+    match search.looks.get(place) {
+        Some(many) => *many,
+        None => 0,
+    }
+}
+
+/// Notes how many groups have rows.
+fn note_look(search: &mut Search, place: usize)
+    ensures numbers { search.new.numbers ≡ search.old.numbers }
+    ensures rows { search.new.rows ≡ search.old.rows }
+    ensures kept { search.new.kept ≡ search.old.kept }
+    ensures counts { search.new.counts ≡ search.old.counts }
+{
+    let many = search.rows.len();
+    if let Some(slot) = search.looks.get_mut(place) {
+        *slot = many;
+    }
+}
+
+/// Evaluates the tests of a group that wait though both of their parts have an up, of which one was
+/// entered since the last look.
+pub(crate) fn look(
+    scratch: &mut Scratch,
+    inst: &Instance,
+    search: &mut Search,
+    place: usize,
+) -> Result<(), AllocError>
+    requires known { IsKnown (problem_of inst.now) search.old }
+    requires place { place < length search.old.rows.items }
+    ensures known { IfOk result (λ _. IsKnown (problem_of inst.now) search.new) }
+    ensures rows { IfOk result (λ _. search.new.rows.items ≡ search.old.rows.items) }
+{
+    let seen = last_look(search, place);
+    let many = search.rows.len();
+    note_look(search, place);
+    if many.saturating_sub(seen) > FEW {
+        return look_at_all(scratch, inst, search, place);
+    }
+    for entered in seen..many {
+        look_at(scratch, inst, search, place, entered)?;
+    }
+    Ok(())
+}
