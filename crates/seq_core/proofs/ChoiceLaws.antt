@@ -1,6 +1,6 @@
 -- Greedy's test is found by few sums: a test whose estimate is above a sum that is known comes later than that sum's test. And
 -- what that test and greedy's costs of its parts add up to.
-use Rattle.std.proofs.Common.{◌≡◌, ℕ, zero, suc, ◌+◌, ◌*◌, ◌<◌, ◌≤◌, ◌≢◌, List, [], ◌∷◌, length, set, get_or, refl, sym, ap, ◌∙◌, arith, subst, inl, inr, Option, Some, None}
+use Rattle.std.proofs.Common.{◌≡◌, ℕ, zero, suc, ◌+◌, ◌*◌, ◌<◌, ◌≤◌, ◌≢◌, List, [], ◌∷◌, length, set, refl, sym, ap, ◌∙◌, arith, subst, inl, inr, Option, Some, None}
 use Rattle.std.specs.Prelude.{⊤, ◌⊎◌, Bool, true, false, cond, filter, nat_le, slice_index}
 use Rattle.std.proofs.Math.ListN.{length-set}
 use Rattle.std.proofs.lemmas.Bool.{cases_Bool, cases_lt, le-leb, lt-leb, true≢false}
@@ -22,12 +22,9 @@ use Rattle.seq_huff.proofs.BoundFits.{product-le}
 use Rattle.seq_huff.proofs.GreedyCode.{greedy_parts, greedy-small}
 use Rattle.seq_core.specs.declared.greedy.Chosen.{Chosen}
 use Rattle.seq_core.specs.Choice.{IsNoLater, IsEvaluated, evaluated}
-use Rattle.seq_core.specs.Numbered.{Numbered, AreNumbers, KeepsNumbers}
+use Rattle.seq_core.specs.Numbered.{Numbered, capacity, AreNumbers, KeepsNumbers}
 
 -- ---- which comes first ----
-
-pub no_later-same : (a : Chosen) → IsNoLater a a
-no_later-same a = record { least = omega arith; lowest = λ e. omega arith }
 
 pub no_later-both : (a b c : Chosen) → IsNoLater a b → IsNoLater b c → IsNoLater a c
 no_later-both a b c ab bc = record {
@@ -160,6 +157,7 @@ module _ (p : Problem) (group : List ℕ) where
 pub record FirstSoFar (p : Problem) (group : List ℕ) (before v : Numbered) (k : ℕ) (c : Chosen) : Type 0 where
   pub numbers : AreNumbers p v
   pub keeps : KeepsNumbers before v
+  pub capacity : capacity v ≡ capacity before
   pub is : IsEvaluated p group c
   pub each : (t : ℕ) → t < k → splits p group t ≡ true → IsNoLater c (evaluated p group t)
 
@@ -167,21 +165,23 @@ pub first-none : (p : Problem) (group : List ℕ) (v : Numbered) (c : Chosen) �
 first-none p group v c are is = record {
   numbers = are;
   keeps = λ g n e. e;
+  capacity = refl;
   is = is;
   each = λ t lt. absurd (let bad : ⊥ = omega arith in bad);
 }
 
-pub first-more : (p : Problem) (group : List ℕ) (before old new : Numbered) (k : ℕ) (c d : Chosen) → FirstSoFar p group before old k c → AreNumbers p new → KeepsNumbers old new → IsEvaluated p group d → IsNoLater d c
+pub first-more : (p : Problem) (group : List ℕ) (before old new : Numbered) (k : ℕ) (c d : Chosen) → FirstSoFar p group before old k c → AreNumbers p new → KeepsNumbers old new → capacity new ≡ capacity old → IsEvaluated p group d → IsNoLater d c
     → (splits p group k ≡ true → IsNoLater d (evaluated p group k)) → FirstSoFar p group before new (k + 1) d
-first-more p group before old new k c d i are keeps is dc last = record {
+first-more p group before old new k c d i are keeps same is dc last = record {
   numbers = are;
   keeps = λ g n e. keeps g n (i.keeps g n e);
+  capacity = same ∙ i.capacity;
   is = is;
   each = λ t lt s. elim (cases_lt t k) [
     | inl l ↦ no_later-both d c (evaluated p group t) dc (i.each t l s)
     | inr ge ↦
-        (let same : t ≡ k = omega arith in
-        subst (λ u. IsNoLater d (evaluated p group u)) (sym same) (last (sym (ap (splits p group) same) ∙ s)))
+        (let it : t ≡ k = omega arith in
+        subst (λ u. IsNoLater d (evaluated p group u)) (sym it) (last (sym (ap (splits p group) it) ∙ s)))
   ];
 }
 
@@ -191,14 +191,6 @@ either-evaluated p group c d r either ic id = elim either [
   | inl e ↦ subst (IsEvaluated p group) (sym e) ic
   | inr e ↦ subst (IsEvaluated p group) (sym e) id
 ]
-
--- a test that is passed over comes later
-pub passed-over : (p : Problem) (group : List ℕ) (c : Chosen) (test estimate : ℕ) → c.sum < estimate → estimate ≤ step_sum p (bound p) group test → IsNoLater c (evaluated p group test)
-passed-over p group c test estimate above low = record { least = omega arith; lowest = λ e. absurd (let bad : ⊥ = omega arith in bad) }
-
--- and the test that is chosen does not come later than itself
-pub chosen-itself : (p : Problem) (group : List ℕ) (c : Chosen) (test : ℕ) → IsEvaluated p group c → test ≡ c.test → IsNoLater c (evaluated p group test)
-chosen-itself p group c test is e = subst (λ t. IsNoLater c (evaluated p group t)) (sym e) (record { least = (let s = is.sum in omega arith); lowest = λ f. omega arith })
 
 -- ---- sums ----
 

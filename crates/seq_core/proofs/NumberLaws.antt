@@ -19,7 +19,7 @@ use Rattle.seq_huff.specs.declared.order.Order.{Order}
 use Rattle.seq_inst.proofs.SameGroups.{AreWords as AreEightWords, same_members}
 use Rattle.seq_core.specs.Words.{IsWords, AreWords, classes_of}
 use Rattle.seq_core.specs.declared.greedy.Greedy.{Greedy}
-use Rattle.seq_core.specs.Numbered.{Numbered, HasNumber, HasGreedy, IsGreedyOf, AreNumbers, KeepsNumbers}
+use Rattle.seq_core.specs.Numbered.{Numbered, HasNumber, IsGreedyOf, AreNumbers, KeepsNumbers}
 
 -- ---- elements by their places ----
 

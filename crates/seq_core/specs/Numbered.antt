@@ -1,5 +1,5 @@
 -- Groups by number, with what was worked out of each.
-use Rattle.std.specs.Prelude.{◌≡◌, ℕ, List, length, map, Option, Some, slice_get}
+use Rattle.std.specs.Prelude.{◌≡◌, ℕ, ◌+◌, List, length, map, Option, Some, slice_get}
 use Rattle.seq_theory.specs.Problem.{Problem, IsWithin}
 use Rattle.seq_theory.specs.Bound.{bound}
 use Rattle.seq_theory.specs.Greedy.{greedy_test, greedy_cost}
@@ -16,6 +16,10 @@ pub record Numbered : Type 0 where
   pub bounds : List ℕ
   pub greedy : List (Option Greedy)
   pub room : ℕ
+
+-- how many groups can have numbers without more room
+abbrev pub capacity : Numbered → ℕ
+capacity v = length v.groups + v.room
 
 -- the group has this number
 abbrev pub HasNumber : Numbered → List ℕ → ℕ → Type 0

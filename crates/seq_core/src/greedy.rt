@@ -6,9 +6,9 @@
 //! A test is chosen by its sum over the bounds of its parts. Most tests need no sum: each test that splits
 //! the group has an estimate that is at most its sum, and a test is passed over where its estimate is above
 //! a sum that is known. The test of least estimate is asked first, so that this sum is small from the start.
-//! The bounds that were worked out for a sum are kept, as a search asks for them again; parts of the tests
-//! that were passed over get no numbers.
-ghost use Rattle.std.specs.Prelude.{◌≡◌, ◌⊎◌, ◌<◌, ◌≤◌, true, false, length, slice_index, Some, IfOk, vec_len};
+//! The bounds that were worked out for a sum are kept, as a search asks for them again; the parts of the
+//! tests that were passed over get no numbers.
+ghost use Rattle.std.specs.Prelude.{◌≡◌, ◌⊎◌, ◌<◌, ◌≤◌, true, false, Some, IfOk, vec_len};
 ghost use Rattle.seq_theory.specs.Problem.{IsWithin, is_end, splits as is_split, weight_of as weight_sum};
 ghost use Rattle.seq_theory.specs.Bound.{bound as bound_by, step_sum};
 ghost use Rattle.seq_theory.specs.Greedy.{greedy_test as test_of_greedy, greedy_cost as cost_of_greedy, greedy as tree_of_greedy};
@@ -18,7 +18,7 @@ ghost use Rattle.seq_inst.specs.Instances.{problem_of};
 ghost use Rattle.seq_inst.specs.Members.{members};
 ghost use Rattle.seq_inst.specs.Trees.{tree_of};
 ghost use Rattle.seq_core.specs.Choice.{IsNoLater, IsEvaluated, AreEstimates, evaluated};
-ghost use Rattle.seq_core.specs.Numbered.{AreNumbers, KeepsNumbers};
+ghost use Rattle.seq_core.specs.Numbered.{capacity, AreNumbers, KeepsNumbers};
 
 use crate::numbers::Numbers;
 use seq_huff::{Estimate, Order, Scratch};
@@ -100,8 +100,8 @@ pub(crate) fn estimates_of(order: &Order, inst: &Instance, group: &Group) -> Est
 }
 
 impl Numbers {
-    /// The sum of a test over the group, of which the weight is known, and the bounds of its parts. The
-    /// parts get numbers where there is room.
+    /// The sum of a test over the group, of which the weight is known, and the bounds of its parts. Parts
+    /// of two goals or more get numbers where there is room.
     fn bound_sum(
         &mut self,
         scratch: &mut Scratch,
@@ -116,6 +116,7 @@ impl Numbers {
         requires weight { weight ≡ weight_sum (problem_of inst.now) (members group.now) }
         ensures numbers { AreNumbers (problem_of inst.now) self.new }
         ensures keeps { KeepsNumbers self.old self.new }
+        ensures capacity { capacity self.new ≡ capacity self.old }
         ensures value { result ≡ step_sum (problem_of inst.now) (bound_by (problem_of inst.now)) (members group.now) test }
     {
         let pass_part = part(inst, group, test, Answer::Pass);
@@ -145,6 +146,7 @@ impl Numbers {
         requires estimate { is_split (problem_of inst.now) (members group.now) test ≡ true → estimate ≤ step_sum (problem_of inst.now) (bound_by (problem_of inst.now)) (members group.now) test }
         ensures numbers { AreNumbers (problem_of inst.now) self.new }
         ensures keeps { KeepsNumbers self.old self.new }
+        ensures capacity { capacity self.new ≡ capacity self.old }
         ensures evaluated { IsEvaluated (problem_of inst.now) (members group.now) result }
         ensures earlier { IsNoLater result earlier }
         ensures test { is_split (problem_of inst.now) (members group.now) test ≡ true → IsNoLater result (evaluated (problem_of inst.now) (members group.now) test) }
@@ -176,6 +178,7 @@ impl Numbers {
         requires more { is_end (problem_of inst.now) (members group.now) ≡ false }
         ensures numbers { AreNumbers (problem_of inst.now) self.new }
         ensures keeps { KeepsNumbers self.old self.new }
+        ensures capacity { capacity self.new ≡ capacity self.old }
         ensures test { result ≡ test_of_greedy (problem_of inst.now) (members group.now) }
     {
         let estimates = self.estimates(inst, group);
@@ -199,6 +202,7 @@ impl Numbers {
         requires within { IsWithin (problem_of inst.now) (members group.now) }
         ensures numbers { AreNumbers (problem_of inst.now) self.new }
         ensures keeps { KeepsNumbers self.old self.new }
+        ensures capacity { capacity self.new ≡ capacity self.old }
         ensures value { result ≡ cost_of_greedy (problem_of inst.now) (members group.now) }
         ensures fits { result ≤ greatest_cost }
     {
@@ -226,6 +230,7 @@ impl Numbers {
         requires more { is_end (problem_of inst.now) (members group.now) ≡ false }
         ensures numbers { AreNumbers (problem_of inst.now) self.new }
         ensures keeps { KeepsNumbers self.old self.new }
+        ensures capacity { capacity self.new ≡ capacity self.old }
         ensures test { result ≡ test_of_greedy (problem_of inst.now) (members group.now) }
     {
         if let Some(known) = self.kept_greedy(group) {
@@ -248,6 +253,7 @@ impl Numbers {
         requires within { IsWithin (problem_of inst.now) (members group.now) }
         ensures numbers { AreNumbers (problem_of inst.now) self.new }
         ensures keeps { KeepsNumbers self.old self.new }
+        ensures capacity { capacity self.new ≡ capacity self.old }
         ensures value { IfOk result (λ s. tree_of s ≡ tree_of_greedy (problem_of inst.now) (members group.now)) }
     {
         if is_leaf(inst, group) {

@@ -15,13 +15,13 @@ ghost use Rattle.seq_huff.specs.Bounds.{greatest_cost};
 ghost use Rattle.seq_inst.specs.Instances.{problem_of};
 ghost use Rattle.seq_inst.specs.Members.{members};
 ghost use Rattle.seq_core.specs.Choice.{AreEstimates};
-ghost use Rattle.seq_core.specs.Numbered.{HasNumber, HasGreedy, IsGreedyOf, AreNumbers, KeepsNumbers};
+ghost use Rattle.seq_core.specs.Numbered.{capacity, HasNumber, HasGreedy, IsGreedyOf, AreNumbers, KeepsNumbers};
 
 use crate::greedy::{Estimates, Greedy, estimates_of};
 use crate::words::know_words;
 use indexmap::IndexMap;
 use seq_huff::{Order, Scratch, greedy_cost, ordered_bound};
-use seq_inst::{Group, Instance};
+use seq_inst::{Group, Instance, is_leaf};
 use std::alloc::{AllocError, Global};
 use std::marker::Model;
 
@@ -137,6 +137,7 @@ impl Numbers {
         requires greedy { IsGreedyOf (problem_of inst.now) (members group.now) greedy }
         ensures numbers { AreNumbers (problem_of inst.now) self.new }
         ensures keeps { KeepsNumbers self.old self.new }
+        ensures capacity { capacity self.new ≡ capacity self.old }
     {
         if let Some(number) = self.number_within(scratch, inst, group) {
             self.write_greedy(number, greedy);
@@ -199,7 +200,7 @@ impl Numbers {
         ensures numbers { AreNumbers (problem_of inst.now) self.new }
         ensures keeps { KeepsNumbers self.old self.new }
         ensures number { HasNumber self.new (members group.now) result }
-        ensures room { self.new.room + length self.new.groups ≡ self.old.room + length self.old.groups }
+        ensures capacity { capacity self.new ≡ capacity self.old }
         ensures one { self.old.room ≤ self.new.room + 1 }
     {
         let bound = self.fresh_bound(scratch, inst, group);
@@ -245,7 +246,7 @@ impl Numbers {
         ensures full { IfNone result (self.old.room ≡ 0) }
 
         // A new number takes up the room of one.
-        ensures room { self.new.room + length self.new.groups ≡ self.old.room + length self.old.groups }
+        ensures capacity { capacity self.new ≡ capacity self.old }
         ensures one { self.old.room ≤ self.new.room + 1 }
     {
         if let Some(number) = self.find(group) {
@@ -290,7 +291,8 @@ impl Numbers {
         }
     }
 
-    /// The bound of the group, which gets a number where there is room.
+    /// The bound of the group. A group of two goals or more gets a number where there is room; one of
+    /// one goal needs none, as its bound is 0.
     pub(crate) fn bound_within(
         &mut self,
         scratch: &mut Scratch,
@@ -301,9 +303,13 @@ impl Numbers {
         requires within { IsWithin (problem_of inst.now) (members group.now) }
         ensures numbers { AreNumbers (problem_of inst.now) self.new }
         ensures keeps { KeepsNumbers self.old self.new }
+        ensures capacity { capacity self.new ≡ capacity self.old }
         ensures value { result ≡ bound_by (problem_of inst.now) (members group.now) }
         ensures fits { result ≤ greatest_cost }
     {
+        if is_leaf(inst, group) {
+            return 0;
+        }
         match self.number_within(scratch, inst, group) {
             Some(number) => self.bound_at(number),
             None => self.fresh_bound(scratch, inst, group),

@@ -6,7 +6,7 @@ ghost use Rattle.seq_core.specs.Examples.{two_faults as two_faults_problem, star
 
 use crate::{Core, Event, Illegal, Kept, Numbers, Places, Split, lows, settle, vals};
 use seq_huff::Scratch;
-use seq_inst::{Answer, Group, Instance, part, root};
+use seq_inst::{Answer, Group, Instance, Strategy, part, root};
 use std::alloc::{AllocError, Global};
 use std::test::Fail;
 
@@ -44,6 +44,15 @@ fn no_numbers(alloc: Global, inst: &Instance) -> Result<Numbers, AllocError>
     ensures { IfOk result (AreNumbers (problem_of inst.now)) }
 {
     Numbers::new(alloc, inst)
+}
+
+/// Room for one more group. That the numbers stay the instance's is one clause here.
+fn more_room(inst: &Instance, numbers: &mut Numbers) -> Result<(), AllocError>
+    requires { AreNumbers (problem_of inst.now) numbers.old }
+    ensures { AreNumbers (problem_of inst.now) numbers.new }
+{
+    let _ = inst;
+    numbers.reserve(1)
 }
 
 #[test]
@@ -89,6 +98,26 @@ fn what_is_kept_of_two_faults(rt: HostRuntime) -> Result<(), Fail> {
     assert_eq!(rt; numbers.len(), 5);
     assert!(rt; numbers.group_at(1) == passing);
     assert_eq!(rt; numbers.bound_at(1), 7);
+    Ok(())
+}
+
+#[test]
+fn numbers_while_there_is_room(rt: HostRuntime) -> Result<(), Fail> {
+    let alloc = rt.alloc();
+    let mut scratch = Scratch::new();
+    let inst = two_faults(alloc)?;
+    let all = root(&inst);
+    let mut numbers = no_numbers(alloc, &inst)?;
+    let without = numbers.number_within(&mut scratch, &inst, &all);
+    assert_eq!(rt; without, None);
+    more_room(&inst, &mut numbers)?;
+    let with = numbers.number_within(&mut scratch, &inst, &all);
+    assert_eq!(rt; with, Some(0));
+    assert_eq!(rt; numbers.find(&all), Some(0));
+    let cost = numbers.greedy_of(&mut scratch, &inst, &all);
+    assert_eq!(rt; cost, 27);
+    let tree = numbers.greedy_tree(alloc, &mut scratch, &inst, &all)?;
+    assert!(rt; matches!(tree, Strategy::Ask { test: 0, .. }));
     Ok(())
 }
 

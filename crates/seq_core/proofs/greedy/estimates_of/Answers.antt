@@ -1,4 +1,4 @@
-use Rattle.std.proofs.Common.{◌≡◌, ◌<◌, ◌+◌, ◌∙◌, sym, ap, arith, subst, refl, Some}
+use Rattle.std.proofs.Common.{◌+◌, ◌∙◌, sym, arith, subst, refl}
 use Rattle.seq_inst.specs.Members.{members}
 use Rattle.seq_inst.specs.Instances.{problem_of}
 use Rattle.seq_core.proofs.ChoiceLaws.{EstimatedSoFar, LeastIn, estimated-none, estimated-more, estimated-same, estimated-some}

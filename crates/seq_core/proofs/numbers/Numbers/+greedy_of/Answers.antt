@@ -83,6 +83,9 @@ keep_greedy-requires-clause-greedy t c =
 pub returns-clause-keeps : goal.returns-clause-keeps
 returns-clause-keeps t c g n e = c.keep_greedy.ensures.keeps g n (c.greedy_of-fail.ensures.keeps g n (c.greedy_of-pass.ensures.keeps g n (c.greedy_test-test.ensures.keeps g n e)))
 
+pub returns-clause-capacity : goal.returns-clause-capacity
+returns-clause-capacity t c = c.keep_greedy.ensures.capacity ∙ c.greedy_of-fail.ensures.capacity ∙ c.greedy_of-pass.ensures.capacity ∙ c.greedy_test-test.ensures.capacity
+
 pub returns-clause-value : goal.returns-clause-value
 returns-clause-value t c =
     let there = greedy_there (problem_of c.args.inst.now) (members c.args.group.now) c.greedy_test-test.result c.args.inst.now.valid.told c.requires.within (sym c.is_leaf.ensures ∙ c.if-is_leaf.false) c.greedy_test-test.ensures.test in

@@ -48,6 +48,9 @@ greedy_tree-requires-2 t c =
 pub returns-clause-keeps : goal.returns-clause-keeps
 returns-clause-keeps t c g n e = c.greedy_tree-2.ensures.keeps g n (c.greedy_tree.ensures.keeps g n (c.greedy_choice-test.ensures.keeps g n e))
 
+pub returns-clause-capacity : goal.returns-clause-capacity
+returns-clause-capacity t c = c.greedy_tree-2.ensures.capacity ∙ c.greedy_tree.ensures.capacity ∙ c.greedy_choice-test.ensures.capacity
+
 pub returns-clause-value : goal.returns-clause-value
 returns-clause-value t c =
     let p = problem_of c.args.inst.now in

@@ -1,5 +1,4 @@
-use Rattle.std.proofs.Common.{◌≡◌, ◌<◌, ◌∙◌, sym, arith}
-use Rattle.seq_theory.specs.Problem.{Problem}
+use Rattle.std.proofs.Common.{◌∙◌, sym, arith}
 use Rattle.seq_inst.specs.Members.{members}
 use Rattle.seq_inst.specs.Instances.{problem_of}
 use Rattle.seq_core.proofs.ChoiceLaws.{either-evaluated, splitting-in}

@@ -1,5 +1,4 @@
-use Rattle.std.proofs.Common.{◌≡◌, ◌<◌, ◌∙◌, arith}
-use Rattle.std.proofs.lemmas.List.{get_or_read}
+use Rattle.std.proofs.Common.{◌∙◌, arith}
 use Rattle.seq_inst.specs.Members.{members}
 use Rattle.seq_inst.specs.Instances.{problem_of}
 use Rattle.seq_theory.proofs.PartsRecursion.{splitting-there}
@@ -19,10 +18,13 @@ loop-test-init c = first-none (problem_of c.args.inst.now) (members c.args.group
 pub loop-test-preserved : goal.loop-test-preserved
 loop-test-preserved c =
     first-more (problem_of c.args.inst.now) (members c.args.group.now) _ c.loop-test.self c.better-chosen.new.self c.loop-test.test c.loop-test.chosen c.better-chosen.result c.loop-test.invariant
-    c.better-chosen.ensures.numbers c.better-chosen.ensures.keeps c.better-chosen.ensures.evaluated c.better-chosen.ensures.earlier c.better-chosen.ensures.test
+    c.better-chosen.ensures.numbers c.better-chosen.ensures.keeps c.better-chosen.ensures.capacity c.better-chosen.ensures.evaluated c.better-chosen.ensures.earlier c.better-chosen.ensures.test
 
 pub returns-clause-keeps : goal.returns-clause-keeps
 returns-clause-keeps c g n e = c.loop-test.invariant.keeps g n (c.bound_sum-sum.ensures.keeps g n e)
+
+pub returns-clause-capacity : goal.returns-clause-capacity
+returns-clause-capacity c = c.loop-test.invariant.capacity ∙ c.bound_sum-sum.ensures.capacity
 
 pub returns-clause-test : goal.returns-clause-test
 returns-clause-test c =
