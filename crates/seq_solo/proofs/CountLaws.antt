@@ -6,10 +6,10 @@ use Rattle.std.specs.Option.{option_map}
 use Rattle.std.proofs.lemmas.Bool.{cases_Bool, eq-eqb, true≢false}
 use Rattle.std.proofs.lemmas.List.{length-map}
 use Rattle.std.proofs.lemmas.Option.{slice_get-map, slice_get_read, slice_get_within, get_or_from_slice_get}
-use Rattle.seq_theory.specs.Problem.{Problem, is_end, pass_part, fail_part, weight_of, IsWithin, fails}
+use Rattle.seq_theory.specs.Problem.{Problem, is_end, pass_part, fail_part, weight_of}
 use Rattle.seq_theory.specs.Bound.{step_sum}
 use Rattle.seq_theory.specs.Graph.{step_value, sum_with}
-use Rattle.seq_theory.specs.Rows.{Row as PlainRow, no_value, IsRow, row_of, known_low, known_up, up_or, groups_of}
+use Rattle.seq_theory.specs.Rows.{Row as PlainRow, no_value, IsRow, row_of, known_low, known_up, up_or}
 use Rattle.seq_huff.specs.Bounds.{greatest_cost}
 use Rattle.seq_inst.specs.declared.instance.Instance.{Instance}
 use Rattle.seq_inst.specs.declared.outcome.Row.{Row}
@@ -23,15 +23,10 @@ use Rattle.seq_core.specs.RowsOf.{rows_of as rows_from}
 use Rattle.seq_core.specs.Settled.{value_or}
 use Rattle.seq_solo.specs.declared.search.Count.{Count}
 use Rattle.seq_solo.specs.Known.{AreRows, AreKnown, HasSmallUp, count_of, no_row, group_at, IsKeptBy, row_at}
-use Rattle.seq_solo.proofs.KnownLaws.{IsLight, light-group, light-pass, light-fail, known_low-small, row-within, IsRowOf, row_of-found, known_low-le}
+use Rattle.seq_solo.proofs.KnownLaws.{IsLight, light-group, light-pass, light-fail, known_low-small, row-within, IsRowOf, row_of-found}
 use Rattle.seq_solo.proofs.ChoiceLaws.{sum-fits}
 use Rattle.seq_solo.specs.Counts.{no_count, count_at}
 use Rattle.seq_solo.specs.Sums.{counted_sum, IsCountable}
-use Rattle.seq_theory.proofs.GreedyLaws.{part-within}
-use Rattle.seq_theory.proofs.LeastLaws.{least}
-use Rattle.seq_theory.proofs.LowLaws.{low-le-least}
-use Rattle.seq_theory.proofs.RowLaws.{sound-bounds}
-use Rattle.seq_huff.proofs.LeastBounds.{weighed}
 
 same-count : (a b : Count) → Some a ≡ Some b → a ≡ b
 same-count a b e = cc
@@ -101,36 +96,6 @@ up-small p rows known g u e = elim (cases_Bool (is_end p g)) [
     small-row [] all r i = absurd i
     small-row (x ∷ rest) all r (inl s) = subst (λ (y : PlainRow). (y.up ≡ no_value) ⊎ (y.up ≤ greatest_cost)) s (all 0 no_row (omega arith))
     small-row (x ∷ rest) all r (inr i) = small-row rest (λ k d lt. all (suc k) d (omega arith)) r i
-
--- and no less than what the group counts for a low
-low-le-up : (inst : Instance) (rows : List Row) → AreRows (problem_of inst) rows → (g : List ℕ) → IsWithin (problem_of inst) g → (u : ℕ) → known_up (problem_of inst) (rows_from rows) g ≡ Some u → known_low (problem_of inst) (rows_from rows) g ≤ u
-low-le-up inst rows known g within u e = elim (cases_Bool (is_end (problem_of inst) g)) [
-  | inl y ↦ rw y (omega arith)
-  | inr n ↦
-      (let p = problem_of inst in
-      let h = up-of-row p rows g u n e in
-      let a = known_low-le p rows known g in
-      let b = low-le-least p (groups_of (rows_from rows)) g (weighed inst) inst.valid.told within in
-      let c : least p g ≤ h.row.up = subst (λ x. least p x ≤ h.row.up) (sym h.of.same) (sound-bounds p (length rows) (rows_from rows) h.row (weighed inst) inst.valid.told known.sound h.of.among).1 in
-      let d = h.up_is in
-      omega arith)
-]
-
-sum-le : (n a b : ℕ) (oa ob : Option ℕ) (x : ℕ) → ((u : ℕ) → oa ≡ Some u → a ≤ u) → ((u : ℕ) → ob ≡ Some u → b ≤ u) → sum_with n oa ob ≡ Some x → n + (a + b) ≤ x
-sum-le n a b None ob x ha hb e = absurd (let bad : ⊥ = cc in bad)
-sum-le n a b (Some u) None x ha hb e = absurd (let bad : ⊥ = cc in bad)
-sum-le n a b (Some u) (Some w) x ha hb e = let s : n + (u + w) ≡ x = some-number (n + (u + w)) x e in let f = ha u refl in let g = hb w refl in omega arith
-  where
-    some-number : (k m : ℕ) → Some k ≡ Some m → k ≡ m
-    some-number k m e = cc
-
--- the sum of a test and its parts' ups is no less than that of their lows
-pub step-le : (inst : Instance) (rows : List Row) → AreRows (problem_of inst) rows → (g : List ℕ) → IsWithin (problem_of inst) g → (t x : ℕ) → step_value (problem_of inst) (known_up (problem_of inst) (rows_from rows)) g t ≡ Some x
-    → step_sum (problem_of inst) (known_low (problem_of inst) (rows_from rows)) g t ≤ x
-step-le inst rows known g within t x e =
-    let p = problem_of inst in
-    sum-le (p.cost t * weight_of p g) (known_low p (rows_from rows) (pass_part p t g)) (known_low p (rows_from rows) (fail_part p t g)) (known_up p (rows_from rows) (pass_part p t g)) (known_up p (rows_from rows) (fail_part p t g)) x
-    (low-le-up inst rows known (pass_part p t g) (part-within p (p.passes t) g within)) (low-le-up inst rows known (fail_part p t g) (part-within p (fails p t) g within)) e
 
 module _ (inst : Instance) (v : Numbered) (rows : List Row) (kept : List Kept) (counts : List Count) (known : AreKnown (problem_of inst) v rows kept counts) (place : ℕ) (lt : place < length rows) where
   group-light : IsLight (problem_of inst) (members (group_at rows place))
