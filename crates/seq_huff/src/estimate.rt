@@ -5,7 +5,8 @@
 //! The bound of a part is made from Huffman's cost of its weights and the costs of the tests that split
 //! it. Here stand in their place a number that is at most Huffman's cost, from the part's weight and the
 //! potentials of its classes, and the cheapest tests that split the group, without the one that is asked:
-//! those that split a part are among them.
+//! those that split a part are among them. No clause says how near the number comes to the sum: 0 would be
+//! right too, and every test then be evaluated.
 ghost use Rattle.std.specs.Prelude.{◌≡◌, ℕ, ◌*◌, ◌<◌, ◌≤◌, true, vec_len, slice_index};
 ghost use Rattle.seq_theory.specs.Problem.{IsWithin, splits as is_split};
 ghost use Rattle.seq_theory.specs.Bound.{bound as bound_of, step_sum};
