@@ -6,7 +6,10 @@
 //! ever matter. So a test waits at first, with a number that is at most its sum and that costs no bound.
 //! It is evaluated where the least sum is not certain without it. A test that waits with more than
 //! greedy costs is not kept at all: no tree that is worth looking at begins with it.
-ghost use Rattle.std.specs.Prelude.{◌≡◌, ◌<◌, [], All, IfOk, OnOk, OnErr, vec_len};
+//!
+//! `Kept::of` and `Kept::evaluate` take no memory where there is room: in the numbers, and in the lists,
+//! which the caller hands in.
+ghost use Rattle.std.specs.Prelude.{◌≡◌, ◌<◌, ◌≤◌, [], length, All, IsOk, IfOk, OnOk, OnErr, vec_len, vec_capacity};
 ghost use Rattle.seq_theory.specs.Problem.{IsIn, IsWithin, splitting};
 ghost use Rattle.seq_theory.specs.Bound.{bound as bound_by, step_sum};
 ghost use Rattle.seq_inst.specs.Instances.{problem_of};
@@ -18,10 +21,7 @@ ghost use Rattle.seq_core.specs.KeptOf.{HasParts, AreTestsOf, IsKeptOf, IsEvalua
 use crate::numbers::Numbers;
 use seq_huff::{Estimate, Order, Scratch};
 use seq_inst::{Answer, Group, Instance, part, splits, weight_of};
-use std::alloc::{AllocError, Global};
-
-/// The room that is made before greedy is asked, for the groups that its tree meets.
-const ROOM_FOR_GREEDY: u32 = 4096;
+use std::alloc::AllocError;
 
 /// A test that splits a group, with the numbers of the part that passes it and the part that fails it.
 #[derive(Clone, Copy, Debug, PartialEq, Eq)]
@@ -65,6 +65,7 @@ fn split_by(
     ensures keeps { KeepsNumbers numbers.old numbers.new }
     ensures test { IfOk result (λ s. s.test ≡ test) }
     ensures parts { IfOk result (HasParts (problem_of inst.now) numbers.new (members group.now)) }
+    ensures succeeds { 2 ≤ numbers.old.room → IsOk result }
 {
     let pass_part = part(inst, group, test, Answer::Pass);
     let pass = numbers.number_of(scratch, inst, &pass_part)?;
@@ -73,22 +74,23 @@ fn split_by(
     Ok(Split { test, pass, fail })
 }
 
-/// The tests that split the group, each with a number that is at most its sum, but for those of which
-/// this number is above the most.
+/// Fills the list, which is empty, with the tests that split the group, each with a number that is at most
+/// its sum, but for those of which this number is above the most.
 fn waiting_of(
-    alloc: Global,
     order: &Order,
     inst: &Instance,
     group: &Group,
     most: u64,
+    mut waiting: Vec<Waiting>,
 ) -> Result<Vec<Waiting>, AllocError>
     requires order { IsOrderOf (problem_of inst.now) order.now }
     requires within { IsWithin (problem_of inst.now) (members group.now) }
-    ensures { IfOk result (λ w. (v : Numbered) → AreTestsOf (problem_of inst.now) v (members group.now) (step_sum (problem_of inst.now) (bound_by (problem_of inst.now)) (members group.now)) most [] w.items) }
+    requires empty { waiting.items ≡ [] }
+    ensures tests { IfOk result (λ w. (v : Numbered) → AreTestsOf (problem_of inst.now) v (members group.now) (step_sum (problem_of inst.now) (bound_by (problem_of inst.now)) (members group.now)) most [] w.items) }
+    ensures succeeds { vec_len inst.now.costs ≤ vec_capacity waiting → IsOk result }
 {
     let estimate = Estimate::of(order, inst, group);
     let tests = inst.costs.len() as u32;
-    let mut waiting = Vec::new(alloc);
     for test in 0..tests {
         if splits(inst, group, test) {
             let least = estimate.least_sum(order, inst, group, test);
@@ -102,38 +104,44 @@ fn waiting_of(
 
 impl Kept {
     /// What is kept of the group at first: no test is evaluated yet, and those that may cost no more than
-    /// greedy wait. The group gets a number where it has none, and so do the groups of greedy's tree.
+    /// greedy wait. The group gets a number where it has none, and so do the groups of greedy's tree while
+    /// there is room. The two lists are empty; it takes no memory where there is room for the group's number
+    /// and the second list has room for all tests.
     pub fn of(
-        alloc: Global,
         scratch: &mut Scratch,
         numbers: &mut Numbers,
         inst: &Instance,
         group: &Group,
+        splits: Vec<Split>,
+        waiting: Vec<Waiting>,
     ) -> Result<Kept, AllocError>
         requires numbers { AreNumbers (problem_of inst.now) numbers.old }
         requires within { IsWithin (problem_of inst.now) (members group.now) }
+        requires no_splits { splits.items ≡ [] }
+        requires none_wait { waiting.items ≡ [] }
         ensures numbers { AreNumbers (problem_of inst.now) numbers.new }
         ensures keeps { KeepsNumbers numbers.old numbers.new }
         ensures kept { IfOk result (IsKeptOf (problem_of inst.now) numbers.new (members group.now)) }
         ensures none { IfOk result (λ k. k.splits.items ≡ []) }
+        ensures succeeds { 0 < numbers.old.room → vec_len inst.now.costs ≤ vec_capacity waiting → IsOk result }
     {
         let number = numbers.number_of(scratch, inst, group)?;
-        numbers.reserve(ROOM_FOR_GREEDY)?;
         let greedy = numbers.greedy_of(scratch, inst, group);
-        let waiting = waiting_of(alloc, numbers.order(), inst, group, greedy)?;
+        let waiting = waiting_of(numbers.order(), inst, group, greedy, waiting)?;
         Ok(Kept {
             number,
             weight: weight_of(inst, group),
             bound: numbers.bound_at(number),
             greedy,
-            splits: Vec::new(alloc),
+            splits,
             waiting,
         })
     }
 
     /// Evaluates the test that waits at this place of the list: its parts get numbers where they have
     /// none, and it goes to the end of the evaluated ones. The last test that waits takes its place. The
-    /// group is the one of which this is kept. Where the memory is short nothing but the numbers changes.
+    /// group is the one of which this is kept. It takes no memory where there is room for two numbers and for
+    /// one more evaluated test. Where the memory is short nothing but the numbers changes.
     pub fn evaluate(
         &mut self,
         scratch: &mut Scratch,
@@ -155,6 +163,7 @@ impl Kept {
 
         ensures err_splits { OnErr result (self.new.splits.items ≡ self.old.splits.items) }
         ensures err_waiting { OnErr result (self.new.waiting ≡ self.old.waiting) }
+        ensures succeeds { 2 ≤ numbers.old.room → length self.old.splits.items < vec_capacity self.old.splits → IsOk result }
 
         ensures number { self.new.number ≡ self.old.number }
         ensures weight { self.new.weight ≡ self.old.weight }

@@ -6,7 +6,7 @@
 //! `reserve` takes the memory for so many more groups. `number_within` takes none: it gives numbers while
 //! that room lasts. A group that is met later has none, and what is asked of it is worked out afresh, each
 //! time; so a lack of room costs time and changes no answer.
-ghost use Rattle.std.specs.Prelude.{◌≡◌, ◌+◌, ◌-◌, ◌++◌, ◌∷◌, [], ◌<◌, ◌≤◌, false, max, length, slice_get, slice_set, IfOk, OnOk, OnErr, IfSome, IfNone, Some, None};
+ghost use Rattle.std.specs.Prelude.{◌≡◌, ◌+◌, ◌-◌, ◌++◌, ◌∷◌, [], ◌<◌, ◌≤◌, false, true, max, length, slice_get, slice_set, IsOk, IfOk, OnOk, OnErr, IfSome, IfNone, Some, None};
 ghost use Rattle.seq_theory.specs.Problem.{Problem, IsWithin, is_end};
 ghost use Rattle.seq_theory.specs.Bound.{bound as bound_by};
 ghost use Rattle.seq_theory.specs.Graph.{is_entered};
@@ -168,6 +168,7 @@ impl Numbers {
     pub fn reserve(&mut self, more: u32) -> Result<(), AllocError>
         ensures ok { OnOk result (self.new ≡ record self.old { room = max self.old.room more }) }
         ensures err { OnErr result (self.new ≡ self.old) }
+        ensures succeeds { more ≤ self.old.room → IsOk result }
         ensures numbers { (p : Problem) → AreNumbers p self.old → AreNumbers p self.new }
         ensures keeps { KeepsNumbers self.old self.new }
     {
@@ -214,7 +215,8 @@ impl Numbers {
         self.add(group, bound)
     }
 
-    /// The number of the group. One that has none gets the next one, with its bound.
+    /// The number of the group. One that has none gets the next one, with its bound. It takes memory only
+    /// where the group has no number and no room is left.
     pub fn number_of(
         &mut self,
         scratch: &mut Scratch,
@@ -226,6 +228,13 @@ impl Numbers {
         ensures numbers { AreNumbers (problem_of inst.now) self.new }
         ensures keeps { KeepsNumbers self.old self.new }
         ensures number { IfOk result (HasNumber self.new (members group.now)) }
+
+        // It fails only where the group has no number and no room is left.
+        ensures known { is_entered self.old.groups (members group.now) ≡ true → IsOk result }
+        ensures succeeds { 0 < self.old.room → IsOk result }
+
+        // A new number takes up the room of one.
+        ensures one { self.old.room ≤ self.new.room + 1 }
     {
         if let Some(number) = self.find(group) {
             return Ok(number);

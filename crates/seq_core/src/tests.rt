@@ -81,7 +81,14 @@ fn what_is_kept_of_two_faults(rt: HostRuntime) -> Result<(), Fail> {
     let all = root(&inst);
     let passing = part(&inst, &all, 0, Answer::Pass);
     let mut numbers = no_numbers(alloc, &inst)?;
-    let mut kept = Kept::of(alloc, &mut scratch, &mut numbers, &inst, &all)?;
+    let mut kept = Kept::of(
+        &mut scratch,
+        &mut numbers,
+        &inst,
+        &all,
+        Vec::new(alloc),
+        Vec::new(alloc),
+    )?;
     assert_eq!(rt; (kept.number, kept.weight), (0, 10));
     assert_eq!(rt; (kept.bound, kept.greedy), (18, 27));
     assert_eq!(rt; kept.splits.len(), 0);

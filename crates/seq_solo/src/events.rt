@@ -21,6 +21,9 @@ use seq_huff::Scratch;
 use seq_inst::{Group, Instance, Row};
 use std::alloc::{AllocError, Global};
 
+/// The room that is made before greedy is asked, for the groups that its tree meets.
+const ROOM_FOR_GREEDY: u32 = 4096;
+
 /// Raises a row's low, if it is less.
 fn raise(rows: &mut Vec<Row>, place: usize, to: u64)
     requires { place < length rows.old.items }
@@ -118,7 +121,15 @@ fn add(
     ensures rows { IfOk result (λ _. search.new.rows.items ≡ search.old.rows.items ++ record { group = group.now; low = 0; up = greedy_cost (problem_of inst.now) (members group.now) } ∷ []) }
 {
     let place = search.rows.len();
-    let kept = Kept::of(alloc, scratch, &mut search.numbers, inst, group)?;
+    search.numbers.reserve(ROOM_FOR_GREEDY)?;
+    let kept = Kept::of(
+        scratch,
+        &mut search.numbers,
+        inst,
+        group,
+        Vec::new(alloc),
+        Vec::new(alloc),
+    )?;
     count_new(inst, &search.numbers, &mut search.counts)?;
     let count = &mut search.counts[kept.number as usize];
     count.up = kept.greedy;

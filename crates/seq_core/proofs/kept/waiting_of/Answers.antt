@@ -1,4 +1,4 @@
-use Rattle.std.proofs.Common.{◌≡◌, ◌∙◌, sym, ap, arith}
+use Rattle.std.proofs.Common.{◌≡◌, ◌++◌, ◌∷◌, [], ◌∙◌, sym, ap, arith, length, length-append, vec_capacity}
 use Rattle.seq_theory.specs.Bound.{bound, step_sum}
 use Rattle.seq_inst.specs.Members.{members}
 use Rattle.seq_inst.specs.Instances.{problem_of}
@@ -12,21 +12,45 @@ loop-test-preserved c =
     let g = members c.args.group.now in
     let sum = step_sum p (bound p) g in
     let found = c.loop-test.waiting.items in
-    let i = c.loop-test.invariant in
+    let i = c.loop-test.invariant.so_far in
+    let few = c.loop-test.invariant.few in
+    let capacity = c.loop-test.invariant.capacity in
     elim c.if-splits.branch [
       | then-splits+then-least-most+in_ok-push w ↦
-          waiting-more p g sum c.args.most c.loop-test.test found c.if-splits.waiting.items (record { test = c.loop-test.test; least = w.least_sum-least.result }) i
-          (sym c.splits.ensures ∙ w.if-splits.true) (omega arith) w.least_sum-least.ensures (ap (λ v. v.items) w.waiting-is ∙ w.in_ok-push.ensures.items)
+          (let more : c.if-splits.waiting.items ≡ found ++ record { test = c.loop-test.test; least = w.least_sum-least.result } ∷ [] = ap (λ v. v.items) w.waiting-is ∙ w.in_ok-push.ensures.items in
+          let long = ap length more ∙ length-append found (record { test = c.loop-test.test; least = w.least_sum-least.result } ∷ []) in
+          let kept = ap vec_capacity w.waiting-is in
+          let grown = w.in_ok-push.ensures.capacity in
+          record {
+            so_far = waiting-more p g sum c.args.most c.loop-test.test found c.if-splits.waiting.items (record { test = c.loop-test.test; least = w.least_sum-least.result }) i
+                (sym c.splits.ensures ∙ w.if-splits.true) (omega arith) w.least_sum-least.ensures more;
+            few = omega arith;
+            capacity = omega arith;
+          })
       | then-splits+else-least-most w ↦
-          waiting-above p g sum c.args.most c.loop-test.test w.least_sum-least.result found c.if-splits.waiting.items i w.least_sum-least.ensures (omega arith) (ap (λ v. v.items) w.waiting-is)
+          (let same = ap (λ v. v.items) w.waiting-is in
+          let long = ap length same in
+          let kept = ap vec_capacity w.waiting-is in
+          record {
+            so_far = waiting-above p g sum c.args.most c.loop-test.test w.least_sum-least.result found c.if-splits.waiting.items i w.least_sum-least.ensures (omega arith) same;
+            few = omega arith;
+            capacity = omega arith;
+          })
       | else-splits w ↦
-          waiting-same p g sum c.args.most c.loop-test.test found c.if-splits.waiting.items i (sym c.splits.ensures ∙ w.if-splits.false) (ap (λ v. v.items) w.waiting-is)
+          (let same = ap (λ v. v.items) w.waiting-is in
+          let long = ap length same in
+          let kept = ap vec_capacity w.waiting-is in
+          record {
+            so_far = waiting-same p g sum c.args.most c.loop-test.test found c.if-splits.waiting.items i (sym c.splits.ensures ∙ w.if-splits.false) same;
+            few = omega arith;
+            capacity = omega arith;
+          })
     ]
 
-pub returns : goal.returns
-returns c v =
+pub returns-clause-tests : goal.returns-clause-tests
+returns-clause-tests c v =
     let p = problem_of c.args.inst.now in
     let g = members c.args.group.now in
     let n = c.len-tests.ensures ∙ c.args.inst.now.costs.ok.0 in
     let e : c.loop-test.test ≡ p.tests = omega arith in
-    waiting-all p g (step_sum p (bound p) g) c.args.most v c.loop-test.test c.loop-test.waiting.items c.loop-test.invariant e
+    waiting-all p g (step_sum p (bound p) g) c.args.most v c.loop-test.test c.loop-test.waiting.items c.loop-test.invariant.so_far e

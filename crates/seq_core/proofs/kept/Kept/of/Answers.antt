@@ -12,12 +12,12 @@ returns-clause-kept c =
     let g = members c.args.group.now in
     let v = c.greedy_of-greedy.new.self in
     let sum = step_sum p (bound p) g in
-    let has = c.greedy_of-greedy.ensures.keeps g c.in_ok-number.number (c.in_ok-reserve.ensures.keeps g c.in_ok-number.number c.in_ok-number.ensures.number) in
+    let has = c.greedy_of-greedy.ensures.keeps g c.in_ok-number.number c.in_ok-number.ensures.number in
     record {
       number = has;
       weight = c.weight_of.ensures;
       bound = kept-bound p v c.greedy_of-greedy.ensures.numbers g c.in_ok-number.number c.bound_at.result has c.bound_at.ensures;
       greedy = c.greedy_of-greedy.ensures.value;
-      tests = subst (λ n. AreTestsOf p v g sum n c.new.result.items c.in_ok-waiting.waiting.items) c.greedy_of-greedy.ensures.value
-          (subst (λ l. AreTestsOf p v g sum c.greedy_of-greedy.result l c.in_ok-waiting.waiting.items) (sym c.new.ensures.items) (c.in_ok-waiting.ensures v));
+      tests = subst (λ n. AreTestsOf p v g sum n c.args.splits.items c.in_ok-waiting.waiting.items) c.greedy_of-greedy.ensures.value
+          (subst (λ l. AreTestsOf p v g sum c.greedy_of-greedy.result l c.in_ok-waiting.waiting.items) (sym c.requires.no_splits) (c.in_ok-waiting.ensures.tests v));
     }
