@@ -1,15 +1,21 @@
 -- The tests of a group of which some are evaluated and some wait. A test that is evaluated leaves the list of those that wait
 -- and goes to the evaluated ones, and none other is touched: so each that was covered is covered still, whatever its sum.
 use Rattle.std.proofs.Common.{◌≡◌, ◌⊎◌, ℕ, zero, suc, ◌+◌, ◌<◌, ◌≤◌, Bool, filter, nat_le, cond, List, [], ◌∷◌, ◌++◌, length, get_or, inl, inr, refl, sym, ap, ◌∙◌, subst, arith, true, false, All, Contains, map, Some, slice_get, swap_remove, IsPermutation}
-use Rattle.std.proofs.lemmas.Bool.{cases_lt, cases_Bool, true≢false, le-leb, lt-leb}
+use Rattle.std.proofs.lemmas.Bool.{cases_lt, cases_Bool, true≢false, le-leb, lt-leb, leb-true}
 use Rattle.std.proofs.lemmas.List.{map-append}
 use Rattle.std.proofs.lemmas.List.Elements.{All-head, All-tail, All-nil, All-push, All-weaker, All-filter}
 use Rattle.std.proofs.lemmas.List.Sorted.{IsPermutation-swap_remove, All-permutation, Contains-permutation}
 use Rattle.std.proofs.lemmas.Option.{slice_get-get_or, slice_get_within}
-use Rattle.seq_theory.specs.Problem.{Problem, IsIn, splits, splitting, pass_part, fail_part, count_up}
-use Rattle.seq_theory.specs.Greedy.{first_least}
-use Rattle.seq_theory.proofs.GroupLaws.{IsIn-filter, filter-IsIn, filter_passes}
+use Rattle.seq_theory.specs.Problem.{Problem, IsIn, splits, splitting, pass_part, fail_part, count_up, is_end}
+use Rattle.seq_theory.specs.Bound.{bound, step_sum}
+use Rattle.seq_theory.specs.Greedy.{first_least, greedy_cost}
+use Rattle.seq_theory.proofs.GroupLaws.{IsIn-filter, filter-IsIn, filter_passes, length-two_filters, pass_part_smaller, fail_part_smaller}
 use Rattle.seq_theory.proofs.LeastLaws.{IsIn-count_up, count_up-IsIn}
+use Rattle.seq_inst.specs.declared.group.Group.{Group}
+use Rattle.seq_inst.specs.declared.instance.Instance.{Instance}
+use Rattle.seq_inst.specs.Members.{members}
+use Rattle.seq_inst.specs.Instances.{problem_of}
+use Rattle.seq_inst.proofs.PartsLaws.{is_end-length}
 use Rattle.seq_core.specs.declared.kept.Kept.{Kept}
 use Rattle.seq_core.specs.declared.kept.Split.{Split}
 use Rattle.seq_core.specs.declared.kept.Waiting.{Waiting}
@@ -330,3 +336,21 @@ module _ (p : Problem) (v : Numbered) (group : List ℕ) (sum : ℕ → ℕ) (up
         | inr (inl b) ↦ absurd (let a = all-waits (λ w. sum u < w.least) b.entry waiting waits b.waits in let below = b.least in let bad : ⊥ = omega arith in bad)
         | inr (inr above) ↦ absurd (let bad : ⊥ = omega arith in bad)
       ])
+
+-- no test splits a group of one goal, so nothing need be listed
+pub tests-none : (inst : Instance) (g : Group) (v : Numbered) → is_end (problem_of inst) (members g) ≡ true → (listed : List Split) (waiting : List Waiting) → listed ≡ [] → waiting ≡ []
+    → AreTestsOf (problem_of inst) v (members g) (step_sum (problem_of inst) (bound (problem_of inst)) (members g)) (greedy_cost (problem_of inst) (members g)) listed waiting
+tests-none inst g v end listed waiting none none_wait =
+    let p = problem_of inst in
+    let one = leb-true (length (members g)) 1 (is_end-length inst g ∙ end) in
+    record {
+      covers = λ t h.
+          let there = filter_passes (splits p (members g)) t (count_up 0 p.tests) h in
+          let pass = pass_part_smaller p t (members g) there in
+          let fail = fail_part_smaller p t (members g) there in
+          let both = length-two_filters (p.passes t) (members g) in
+          absurd (let bad : ⊥ = omega arith in bad);
+      parts = subst (All (HasParts p v (members g))) (sym none) (All-nil (HasParts p v (members g)));
+      splits_are = subst (All (λ (s : Split). IsIn s.test (splitting p (members g)))) (sym none) (All-nil (λ (s : Split). IsIn s.test (splitting p (members g))));
+      waiting_are = subst (All (λ (w : Waiting). IsIn w.test (splitting p (members g)))) (sym none_wait) (All-nil (λ (w : Waiting). IsIn w.test (splitting p (members g))));
+    }

@@ -8,7 +8,7 @@
 //! a sum that is known. The test of least estimate is asked first, so that this sum is small from the start.
 //! The bounds that were worked out for a sum are kept, as a search asks for them again; the parts of the
 //! tests that were passed over get no numbers.
-ghost use Rattle.std.specs.Prelude.{◌≡◌, ◌⊎◌, ◌<◌, ◌≤◌, true, false, Some, IfOk, vec_len};
+ghost use Rattle.std.specs.Prelude.{◌≡◌, ◌⊎◌, ◌<◌, ◌≤◌, true, false, Some, IfOk, IfSome, vec_len};
 ghost use Rattle.seq_theory.specs.Problem.{IsWithin, is_end, splits as is_split, weight_of as weight_sum};
 ghost use Rattle.seq_theory.specs.Bound.{bound as bound_by, step_sum};
 ghost use Rattle.seq_theory.specs.Greedy.{greedy_test as test_of_greedy, greedy_cost as cost_of_greedy, greedy as tree_of_greedy};
@@ -165,23 +165,24 @@ impl Numbers {
     }
 
     /// The splitting test of least sum over the bounds of its parts, the lowest of these.
-    fn greedy_test(
+    fn test_by(
         &mut self,
         scratch: &mut Scratch,
         inst: &Instance,
         group: &Group,
         weight: u64,
+        estimates: &Estimates,
     ) -> u32
         requires numbers { AreNumbers (problem_of inst.now) self.old }
         requires within { IsWithin (problem_of inst.now) (members group.now) }
         requires weight { weight ≡ weight_sum (problem_of inst.now) (members group.now) }
         requires more { is_end (problem_of inst.now) (members group.now) ≡ false }
+        requires estimates { AreEstimates (problem_of inst.now) (members group.now) estimates.now }
         ensures numbers { AreNumbers (problem_of inst.now) self.new }
         ensures keeps { KeepsNumbers self.old self.new }
         ensures capacity { capacity self.new ≡ capacity self.old }
         ensures test { result ≡ test_of_greedy (problem_of inst.now) (members group.now) }
     {
-        let estimates = self.estimates(inst, group);
         let sum = self.bound_sum(scratch, inst, group, estimates.first, weight);
         let mut chosen = Chosen {
             test: estimates.first,
@@ -195,11 +196,59 @@ impl Numbers {
         chosen.test
     }
 
+    /// The same test; the estimates are worked out where they weren't before.
+    fn greedy_test(
+        &mut self,
+        scratch: &mut Scratch,
+        inst: &Instance,
+        group: &Group,
+        weight: u64,
+        estimates: Option<&Estimates>,
+    ) -> u32
+        requires numbers { AreNumbers (problem_of inst.now) self.old }
+        requires within { IsWithin (problem_of inst.now) (members group.now) }
+        requires weight { weight ≡ weight_sum (problem_of inst.now) (members group.now) }
+        requires more { is_end (problem_of inst.now) (members group.now) ≡ false }
+        requires estimates { IfSome estimates (λ e. AreEstimates (problem_of inst.now) (members group.now) e.now) }
+        ensures numbers { AreNumbers (problem_of inst.now) self.new }
+        ensures keeps { KeepsNumbers self.old self.new }
+        ensures capacity { capacity self.new ≡ capacity self.old }
+        ensures test { result ≡ test_of_greedy (problem_of inst.now) (members group.now) }
+    {
+        match estimates {
+            Some(estimates) => self.test_by(scratch, inst, group, weight, estimates),
+            None => {
+                let estimates = self.estimates(inst, group);
+                self.test_by(scratch, inst, group, weight, &estimates)
+            }
+        }
+    }
+
     /// What greedy costs over the group. It is worked out once for each group that greedy's trees meet, as
     /// long as there is room for numbers; it takes no memory.
     pub fn greedy_of(&mut self, scratch: &mut Scratch, inst: &Instance, group: &Group) -> u64
         requires numbers { AreNumbers (problem_of inst.now) self.old }
         requires within { IsWithin (problem_of inst.now) (members group.now) }
+        ensures numbers { AreNumbers (problem_of inst.now) self.new }
+        ensures keeps { KeepsNumbers self.old self.new }
+        ensures capacity { capacity self.new ≡ capacity self.old }
+        ensures value { result ≡ cost_of_greedy (problem_of inst.now) (members group.now) }
+        ensures fits { result ≤ greatest_cost }
+    {
+        self.greedy_from(scratch, inst, group, None)
+    }
+
+    /// The same cost, where the estimates of the group's tests may have been worked out already.
+    pub(crate) fn greedy_from(
+        &mut self,
+        scratch: &mut Scratch,
+        inst: &Instance,
+        group: &Group,
+        estimates: Option<&Estimates>,
+    ) -> u64
+        requires numbers { AreNumbers (problem_of inst.now) self.old }
+        requires within { IsWithin (problem_of inst.now) (members group.now) }
+        requires estimates { IfSome estimates (λ e. AreEstimates (problem_of inst.now) (members group.now) e.now) }
         ensures numbers { AreNumbers (problem_of inst.now) self.new }
         ensures keeps { KeepsNumbers self.old self.new }
         ensures capacity { capacity self.new ≡ capacity self.old }
@@ -213,11 +262,11 @@ impl Numbers {
             return known.cost;
         }
         let weight = weight_of(inst, group);
-        let test = self.greedy_test(scratch, inst, group, weight);
+        let test = self.greedy_test(scratch, inst, group, weight, estimates);
         let pass_part = part(inst, group, test, Answer::Pass);
-        let pass = self.greedy_of(scratch, inst, &pass_part);
+        let pass = self.greedy_from(scratch, inst, &pass_part, None);
         let fail_part = part(inst, group, test, Answer::Fail);
-        let fail = self.greedy_of(scratch, inst, &fail_part);
+        let fail = self.greedy_from(scratch, inst, &fail_part, None);
         let cost = u64::from(inst.costs[test as usize]) * weight + (pass + fail);
         self.keep_greedy(scratch, inst, group, Greedy { test, cost });
         cost
@@ -237,7 +286,7 @@ impl Numbers {
             return known.test;
         }
         let weight = weight_of(inst, group);
-        self.greedy_test(scratch, inst, group, weight)
+        self.greedy_test(scratch, inst, group, weight, None)
     }
 
     /// The greedy strategy for the group, by the tests that are kept. Where one isn't kept it is chosen

@@ -14,13 +14,14 @@ ghost use Rattle.seq_theory.specs.Problem.{IsIn, IsWithin, splitting};
 ghost use Rattle.seq_theory.specs.Bound.{bound as bound_by, step_sum};
 ghost use Rattle.seq_inst.specs.Instances.{problem_of};
 ghost use Rattle.seq_inst.specs.Members.{members};
-ghost use Rattle.seq_huff.specs.Orders.{IsOrderOf};
+ghost use Rattle.seq_core.specs.Choice.{AreEstimates};
 ghost use Rattle.seq_core.specs.Numbered.{Numbered, AreNumbers, KeepsNumbers};
 ghost use Rattle.seq_core.specs.KeptOf.{HasParts, AreTestsOf, IsKeptOf, IsEvaluated, KeepsTests};
 
+use crate::greedy::Estimates;
 use crate::numbers::Numbers;
-use seq_huff::{Estimate, Order, Scratch};
-use seq_inst::{Answer, Group, Instance, part, splits, weight_of};
+use seq_huff::Scratch;
+use seq_inst::{Answer, Group, Instance, is_leaf, part, splits, weight_of};
 use std::alloc::AllocError;
 
 /// A test that splits a group, with the numbers of the part that passes it and the part that fails it.
@@ -77,23 +78,21 @@ fn split_by(
 /// Fills the list, which is empty, with the tests that split the group, each with a number that is at most
 /// its sum, but for those of which this number is above the most.
 fn waiting_of(
-    order: &Order,
     inst: &Instance,
     group: &Group,
+    estimates: &Estimates,
     most: u64,
     mut waiting: Vec<Waiting>,
 ) -> Result<Vec<Waiting>, AllocError>
-    requires order { IsOrderOf (problem_of inst.now) order.now }
-    requires within { IsWithin (problem_of inst.now) (members group.now) }
+    requires estimates { AreEstimates (problem_of inst.now) (members group.now) estimates.now }
     requires empty { waiting.items ≡ [] }
     ensures tests { IfOk result (λ w. (v : Numbered) → AreTestsOf (problem_of inst.now) v (members group.now) (step_sum (problem_of inst.now) (bound_by (problem_of inst.now)) (members group.now)) most [] w.items) }
     ensures succeeds { vec_len inst.now.costs ≤ vec_capacity waiting → IsOk result }
 {
-    let estimate = Estimate::of(order, inst, group);
     let tests = inst.costs.len() as u32;
     for test in 0..tests {
         if splits(inst, group, test) {
-            let least = estimate.least_sum(order, inst, group, test);
+            let least = estimates.of_tests[test as usize];
             if least <= most {
                 waiting.push(Waiting { test, least })?;
             }
@@ -126,12 +125,25 @@ impl Kept {
         ensures succeeds { 0 < numbers.old.room → vec_len inst.now.costs ≤ vec_capacity waiting → IsOk result }
     {
         let number = numbers.number_of(scratch, inst, group)?;
-        let greedy = numbers.greedy_of(scratch, inst, group);
-        let waiting = waiting_of(numbers.order(), inst, group, greedy, waiting)?;
+        let bound = numbers.bound_at(number);
+        let weight = weight_of(inst, group);
+        if is_leaf(inst, group) {
+            return Ok(Kept {
+                number,
+                weight,
+                bound,
+                greedy: 0,
+                splits,
+                waiting,
+            });
+        }
+        let estimates = numbers.estimates(inst, group);
+        let greedy = numbers.greedy_from(scratch, inst, group, Some(&estimates));
+        let waiting = waiting_of(inst, group, &estimates, greedy, waiting)?;
         Ok(Kept {
             number,
-            weight: weight_of(inst, group),
-            bound: numbers.bound_at(number),
+            weight,
+            bound,
             greedy,
             splits,
             waiting,

@@ -89,8 +89,9 @@ pub(crate) fn least_test(
 {
     let mut chosen = least_evaluated(inst, search, place);
     while let Some(at) = next_waiting(search.kept[place].waiting.as_slice(), chosen) {
-        evaluate(scratch, inst, search, place, at)?;
-        chosen = least_evaluated(inst, search, place);
+        let split = evaluate(scratch, inst, search, place, at)?;
+        let sum = low_sum(inst, search, place, split);
+        chosen = Some(choose(chosen, split, sum));
     }
     match chosen {
         Some(chosen) => Ok(chosen),

@@ -1,14 +1,14 @@
 //! The tests of a group that wait to be evaluated. Each waits with a number that is at most its sum. The
 //! test that is evaluated next is the one of least number, until all numbers are above the least sum.
-ghost use Rattle.std.specs.Prelude.{◌≡◌, ◌<◌, length, IfOk, IfSome, IfNone, []};
+ghost use Rattle.std.specs.Prelude.{◌≡◌, ◌<◌, ◌++◌, ◌∷◌, length, IfOk, IfSome, IfNone, []};
 ghost use Rattle.seq_inst.specs.Instances.{problem_of};
-ghost use Rattle.seq_solo.specs.Known.{IsKnown, waiting_at};
+ghost use Rattle.seq_solo.specs.Known.{IsKnown, splits_at, waiting_at};
 ghost use Rattle.seq_solo.specs.Choice.{IsLeastWaiting, IsCertain};
 
 use crate::choice::Chosen;
 use crate::counts::count_new;
 use crate::search::Search;
-use seq_core::Waiting;
+use seq_core::{Split, Waiting};
 use seq_huff::Scratch;
 use seq_inst::Instance;
 use std::alloc::AllocError;
@@ -42,23 +42,25 @@ pub(crate) fn next_waiting(waiting: &[Waiting], chosen: Option<Chosen>) -> Optio
     }
 }
 
-/// Evaluates the test that waits at this place of the list.
+/// Evaluates the test that waits at this place of the list. It is then the last of the evaluated ones.
 pub(crate) fn evaluate(
     scratch: &mut Scratch,
     inst: &Instance,
     search: &mut Search,
     place: usize,
     at: usize,
-) -> Result<(), AllocError>
+) -> Result<Split, AllocError>
     requires known { IsKnown (problem_of inst.now) search.old }
     requires place { place < length search.old.rows.items }
     requires there { at < length (waiting_at search.old.kept.items place) }
     ensures known { IfOk result (λ _. IsKnown (problem_of inst.now) search.new) }
     ensures rows { IfOk result (λ _. search.new.rows.items ≡ search.old.rows.items) }
+    ensures last { IfOk result (λ s. splits_at search.new.kept.items place ≡ splits_at search.old.kept.items place ++ s ∷ []) }
     ensures fewer { IfOk result (λ _. length (waiting_at search.new.kept.items place) < length (waiting_at search.old.kept.items place)) }
 {
     let group = search.rows[place].group;
     search.kept[place].evaluate(scratch, &mut search.numbers, inst, &group, at)?;
     count_new(inst, &search.numbers, &mut search.counts)?;
-    Ok(())
+    let splits = search.kept[place].splits.as_slice();
+    Ok(splits[splits.len() - 1])
 }

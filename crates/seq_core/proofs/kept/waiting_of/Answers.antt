@@ -1,4 +1,4 @@
-use Rattle.std.proofs.Common.{◌≡◌, ◌++◌, ◌∷◌, [], ◌∙◌, sym, ap, arith, length, length-append, vec_capacity}
+use Rattle.std.proofs.Common.{◌≡◌, ◌++◌, ◌∷◌, [], ◌∙◌, sym, ap, arith, length, length-append, vec_capacity, slice_index}
 use Rattle.seq_theory.specs.Bound.{bound, step_sum}
 use Rattle.seq_inst.specs.Members.{members}
 use Rattle.seq_inst.specs.Instances.{problem_of}
@@ -15,15 +15,17 @@ loop-test-preserved c =
     let i = c.loop-test.invariant.so_far in
     let few = c.loop-test.invariant.few in
     let capacity = c.loop-test.invariant.capacity in
+    let least = slice_index c.args.estimates.now.of_tests c.loop-test.test in
     elim c.if-splits.branch [
       | then-splits+then-least-most+in_ok-push w ↦
-          (let more : c.if-splits.waiting.items ≡ found ++ record { test = c.loop-test.test; least = w.least_sum-least.result } ∷ [] = ap (λ v. v.items) w.waiting-is ∙ w.in_ok-push.ensures.items in
-          let long = ap length more ∙ length-append found (record { test = c.loop-test.test; least = w.least_sum-least.result } ∷ []) in
+          (let there = sym c.splits.ensures ∙ w.if-splits.true in
+          let more : c.if-splits.waiting.items ≡ found ++ record { test = c.loop-test.test; least = least } ∷ [] = ap (λ v. v.items) w.waiting-is ∙ w.in_ok-push.ensures.items in
+          let long = ap length more ∙ length-append found (record { test = c.loop-test.test; least = least } ∷ []) in
           let kept = ap vec_capacity w.waiting-is in
           let grown = w.in_ok-push.ensures.capacity in
           record {
-            so_far = waiting-more p g sum c.args.most c.loop-test.test found c.if-splits.waiting.items (record { test = c.loop-test.test; least = w.least_sum-least.result }) i
-                (sym c.splits.ensures ∙ w.if-splits.true) (omega arith) w.least_sum-least.ensures more;
+            so_far = waiting-more p g sum c.args.most c.loop-test.test found c.if-splits.waiting.items (record { test = c.loop-test.test; least = least }) i
+                there (omega arith) (c.requires.estimates.low c.loop-test.test (omega arith) there) more;
             few = omega arith;
             capacity = omega arith;
           })
@@ -32,7 +34,7 @@ loop-test-preserved c =
           let long = ap length same in
           let kept = ap vec_capacity w.waiting-is in
           record {
-            so_far = waiting-above p g sum c.args.most c.loop-test.test w.least_sum-least.result found c.if-splits.waiting.items i w.least_sum-least.ensures (omega arith) same;
+            so_far = waiting-above p g sum c.args.most c.loop-test.test least found c.if-splits.waiting.items i (c.requires.estimates.low c.loop-test.test (omega arith) (sym c.splits.ensures ∙ w.if-splits.true)) (omega arith) same;
             few = omega arith;
             capacity = omega arith;
           })

@@ -3,17 +3,17 @@ use Rattle.seq_inst.specs.Members.{members}
 use Rattle.seq_inst.specs.Instances.{problem_of}
 use Rattle.seq_theory.proofs.PartsRecursion.{splitting-there}
 use Rattle.seq_core.proofs.ChoiceLaws.{first-none, first-more, chosen-greedy}
-use Rattle.seq_core.proofs.numbers.Numbers.greedy_test.Goals as goal
+use Rattle.seq_core.proofs.numbers.Numbers.test_by.Goals as goal
 
 pub bound_sum-sum-requires-clause-there : goal.bound_sum-sum-requires-clause-there
 bound_sum-sum-requires-clause-there c =
-    let t = splitting-there (problem_of c.args.inst.now) (members c.args.group.now) c.estimates-estimates.result.first c.estimates-estimates.ensures.first in
+    let t = splitting-there (problem_of c.args.inst.now) (members c.args.group.now) c.args.estimates.now.first c.requires.estimates.first in
     let n = c.args.inst.now.costs.ok.0 in
     omega arith
 
 pub loop-test-init : goal.loop-test-init
 loop-test-init c = first-none (problem_of c.args.inst.now) (members c.args.group.now) c.bound_sum-sum.new.self _ c.bound_sum-sum.ensures.numbers
-    (record { test = c.estimates-estimates.ensures.first; sum = c.bound_sum-sum.ensures.value })
+    (record { test = c.requires.estimates.first; sum = c.bound_sum-sum.ensures.value })
 
 pub loop-test-preserved : goal.loop-test-preserved
 loop-test-preserved c =
