@@ -1,5 +1,6 @@
 -- The tests that are kept of a group, one by one: each splits it and has the numbers of its parts.
-use Rattle.std.proofs.Common.{◌≡◌, ℕ, zero, suc, ◌<◌, ◌≤◌, List, [], ◌∷◌, length, get_or, set, slice_get, Some, refl, sym, ap, arith, subst}
+use Rattle.std.proofs.Common.{◌≡◌, ℕ, zero, suc, ◌<◌, ◌≤◌, List, [], ◌∷◌, ◌++◌, length, length-append, get_or, set, slice_get, Contains, Option, None, Some, refl, sym, ap, arith, subst}
+use Rattle.std.proofs.lemmas.List.Elements.{All-contains, Contains-push}
 use Rattle.std.proofs.lemmas.Option.{slice_get_read}
 use Rattle.seq_theory.specs.Problem.{Problem, IsIn, splitting}
 use Rattle.seq_theory.proofs.PartsRecursion.{splitting-there}
@@ -9,7 +10,7 @@ use Rattle.seq_core.specs.KeptOf.{HasParts}
 use Rattle.seq_core.specs.Numbered.{Numbered}
 use Rattle.seq_inst.specs.declared.outcome.Row.{Row}
 use Rattle.seq_inst.specs.Members.{members}
-use Rattle.seq_solo.specs.Known.{IsKeptBy, AreRows, no_row, row_at, group_at, splits_in, splits_at, waiting_in, waiting_at}
+use Rattle.seq_solo.specs.Known.{IsKeptBy, AreKept, AreRows, no_row, row_at, group_at, splits_in, splits_at, waiting_in, waiting_at}
 use Rattle.seq_theory.specs.Bound.{step_sum}
 use Rattle.seq_theory.specs.Greedy.{first_least}
 use Rattle.seq_theory.specs.Rows.{groups_of, known_low}
@@ -34,6 +35,21 @@ module _ (p : Problem) (v : Numbered) (rows : List Row) (r : Row) (k : Kept) (sp
     there = splitting-there p (members r.group) (get_or splits i d).test
         (subst (λ l. IsIn (get_or l i d).test (splitting p (members r.group))) (sym are) (kept.tests.splits_are i d (let l = ap length are in omega arith)));
   }
+
+-- the last of the evaluated tests of a row's group
+pub last-split : (p : Problem) (v : Numbered) (rows : List Row) (kept : List Kept) → AreKept p v rows kept → (place : ℕ) (before : List Split) (s : Split) → splits_at kept place ≡ before ++ s ∷ [] → IsSplitOf p v (members (group_at rows place)) s
+last-split p v rows kept are place before s e = go (slice_get kept place) refl e
+  where
+    go : (o : Option Kept) → slice_get kept place ≡ o → splits_in o ≡ before ++ s ∷ [] → IsSplitOf p v (members (group_at rows place)) s
+    go None at is = absurd (let none = ap length is in let some = length-append before (s ∷ []) in let bad : ⊥ = omega arith in bad)
+    go (Some k) at is =
+        let g = members (group_at rows place) in
+        let of = are.each place k at in
+        let last = subst (λ l. Contains l s) (sym is) (Contains-push before s) in
+        record {
+          parts = All-contains (HasParts p v g) k.splits.items s of.tests.parts last;
+          there = splitting-there p g s.test (All-contains (λ (x : Split). IsIn x.test (splitting p g)) k.splits.items s of.tests.splits_are last);
+        }
 
 -- what is read of a kept group
 pub splits-read : (kept : List Kept) (place : ℕ) (k : Kept) → place < length kept → k ≡ get_or kept place k → splits_at kept place ≡ k.splits.items

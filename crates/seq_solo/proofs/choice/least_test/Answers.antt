@@ -1,17 +1,19 @@
-use Rattle.std.proofs.Common.{◌<◌, ◌∙◌, length, arith, sym, ap, subst, Some}
+use Rattle.std.proofs.Common.{◌<◌, ◌∙◌, ℕ, List, length, arith, sym, ap, subst, Some}
 use Rattle.std.specs.Prelude.{Contains}
 use Rattle.std.proofs.lemmas.List.Elements.{All-contains}
 use Rattle.seq_theory.specs.Bound.{step_sum}
 use Rattle.seq_theory.specs.Rows.{known_low}
+use Rattle.seq_inst.specs.declared.outcome.Row.{Row}
 use Rattle.seq_inst.specs.Members.{members}
 use Rattle.seq_inst.specs.Instances.{problem_of}
 use Rattle.seq_core.specs.KeptOf.{HasParts}
 use Rattle.seq_core.specs.RowsOf.{rows_of as rows_from}
 use Rattle.seq_solo.specs.Choice.{IsLeastOf, IsChoice, IsCertain}
 use Rattle.seq_solo.specs.Known.{group_at, row_at, splits_at}
+use Rattle.seq_solo.proofs.ChoiceLaws.{choice-more}
 use Rattle.seq_solo.proofs.CountLaws.{kept-read}
 use Rattle.seq_solo.proofs.CoverLaws.{certain-first, some-waits}
-use Rattle.seq_solo.proofs.SplitLaws.{splits-read, waiting-read, first-test, first-low}
+use Rattle.seq_solo.proofs.SplitLaws.{last-split, splits-read, waiting-read, first-test, first-low}
 use Rattle.seq_solo.proofs.choice.least_test.Goals as goal
 
 pub evaluate-requires-clause-there : goal.evaluate-requires-clause-there
@@ -24,6 +26,33 @@ evaluate-requires-clause-there c =
     let there = c.in-Some.ensures.there in
     let l = ap length (c.as_slice.ensures.value ∙ sym read) in
     omega arith
+
+pub low_sum-sum-requires-clause-parts : goal.low_sum-sum-requires-clause-parts
+low_sum-sum-requires-clause-parts c =
+    let new = c.evaluate.new.search in
+    let e = c.in_ok-split.ensures in
+    (last-split (problem_of c.args.inst.now) new.numbers new.rows.items new.kept.items e.known.kept_are c.args.place _ c.in_ok-split.split e.last).parts
+
+pub low_sum-sum-requires-clause-there : goal.low_sum-sum-requires-clause-there
+low_sum-sum-requires-clause-there c =
+    let new = c.evaluate.new.search in
+    let e = c.in_ok-split.ensures in
+    (last-split (problem_of c.args.inst.now) new.numbers new.rows.items new.kept.items e.known.kept_are c.args.place _ c.in_ok-split.split e.last).there
+
+pub loop-at-preserved : goal.loop-at-preserved
+loop-at-preserved c =
+    let p = problem_of c.args.inst.now in
+    let old = c.loop-at.search in
+    let new = c.evaluate.new.search in
+    let e = c.in_ok-split.ensures in
+    let f : List Row → ℕ → ℕ = λ rows. step_sum p (known_low p (rows_from rows)) (members (group_at rows c.args.place)) in
+    let before = subst (λ rows. IsChoice (f rows) (splits_at old.kept.items c.args.place) c.loop-at.chosen) (sym e.rows) c.loop-at.invariant.chosen in
+    record {
+      known = e.known;
+      rows = e.rows ∙ c.loop-at.invariant.rows;
+      chosen = subst (IsLeastOf (f new.rows.items) (splits_at new.kept.items c.args.place)) (sym c.choose.ensures)
+          (choice-more (f new.rows.items) (splits_at old.kept.items c.args.place) (splits_at new.kept.items c.args.place) c.in_ok-split.split c.low_sum-sum.result c.loop-at.chosen before e.last c.low_sum-sum.ensures);
+    }
 
 pub unreachable-requires : goal.unreachable-requires
 unreachable-requires c =
