@@ -1,7 +1,7 @@
 -- A walk over a group: it passes words without a class, and takes the lowest bit of the first word that has one. A number
 -- less one has the bits of the number above its lowest 1, and not this one; so what both have is the number without it.
 use Rattle.std.proofs.Common.{◌≡◌, ℕ, zero, suc, ◌+◌, ◌-◌, ◌*◌, ◌/◌, ◌^◌, ◌<◌, ◌≤◌, get_or, refl, sym, ap, ◌∙◌, arith, inl, inr}
-use Rattle.std.specs.Prelude.{false, bit_and}
+use Rattle.std.specs.Prelude.{false, bit_and, Option, Some, None, IfSome, IfNone}
 use Rattle.std.specs.Int.{bit_at, trailing_zeros, w64}
 use Rattle.std.proofs.lemmas.Bool.{cases_lt, eq-eqb, ne_eqb}
 use Rattle.std.proofs.lemmas.Nat.Bits.{bit_at-zero, bit_at_lowest, bit_at-suc, bit_at_and, bit_at-trailing_zeros}
@@ -10,7 +10,7 @@ use Rattle.seq_inst.specs.declared.ahead.Ahead.{Ahead}
 use Rattle.seq_inst.specs.Members.{has_class, HasNoneFrom}
 use Rattle.seq_inst.specs.Walks.{IsAhead, IsNext}
 use Rattle.seq_inst.proofs.WordLaws.{place}
-use Rattle.seq_inst.proofs.FirstLaws.{first-after}
+use Rattle.seq_inst.proofs.FirstLaws.{first-after, IsFound}
 
 -- ---- a number less one ----
 
@@ -51,6 +51,19 @@ less_one (suc t) n set clear =
     over (suc i) lt half rest = bit_at-suc (n - 1) i ∙ ap (λ m. bit_at m i) half ∙ rest.above i (omega arith) ∙ sym (bit_at-suc n i)
 
 -- ---- the walk ----
+
+-- a loop over the classes of a group, with the class where it stands
+abbrev pub IsAheadOf : Group → Ahead → Option ℕ → Type 0
+IsAheadOf g a None = Unit {0}
+IsAheadOf g a (Some c) = IsAhead g a (c + 1)
+
+pub next-is_found : (g : Group) (a : Ahead) (from : ℕ) (next : Option ℕ) → IfSome next (IsNext g a from) → IfNone next (HasNoneFrom g from) → IsFound g from next
+next-is_found g a from None some none = none
+next-is_found g a from (Some c) some none = some.first
+
+pub next-is_ahead : (g : Group) (a : Ahead) (from : ℕ) (next : Option ℕ) → IfSome next (IsNext g a from) → IsAheadOf g a next
+next-is_ahead g a from None some = tt
+next-is_ahead g a from (Some c) some = some.after
 
 -- the walk is ahead of words without a class
 pub record IsPassed (g : Group) (a : Ahead) (from : ℕ) : Type 0 where
