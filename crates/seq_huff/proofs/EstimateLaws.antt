@@ -25,7 +25,7 @@ use Rattle.seq_huff.proofs.BoundFits.{bound-small, product-le}
 use Rattle.seq_huff.proofs.LeastBounds.{weighed}
 use Rattle.seq_huff.proofs.CheaperLaws.{Cheaper, more-cheaper, cheaper-sum, cheaper-length, with-test, sum_first-place, sum_first-suc, bound_from-raises}
 use Rattle.seq_huff.proofs.HuffmanCount.{huff-count, huff-end}
-use Rattle.seq_huff.proofs.MassLaws.{potentials-parts}
+use Rattle.seq_huff.proofs.MassLaws.{length-parts, potentials-parts}
 use Rattle.seq_huff.proofs.SumsLaws.{costs-few}
 
 -- ---- the tests that split a part ----
@@ -248,7 +248,7 @@ module _ (inst : Instance) (g part : Group) (t : ℕ) (within : IsWithin (proble
 
 -- the mass of the group is the masses of its parts together
 pub mass-parts : (inst : Instance) (g pass fail : Group) (t : ℕ) (m : Mass) → IsMassOf (problem_of inst) (members g) m → members pass ≡ pass_part (problem_of inst) t (members g) → members fail ≡ fail_part (problem_of inst) t (members g)
-    → (m.weight ≡ weight_of (problem_of inst) (members pass) + weight_of (problem_of inst) (members fail)) × (m.potential ≡ potentials (problem_of inst) (members pass) + potentials (problem_of inst) (members fail))
+    → (m.classes ≡ length (members pass) + length (members fail)) × (m.weight ≡ weight_of (problem_of inst) (members pass) + weight_of (problem_of inst) (members fail)) × (m.potential ≡ potentials (problem_of inst) (members pass) + potentials (problem_of inst) (members fail))
 mass-parts inst g pass fail t m mass pe fe =
     let p = problem_of inst in
     let w = mass.weight in
@@ -259,7 +259,11 @@ mass-parts inst g pass fail t m mass pe fe =
     let c2 = ap (weight_of p) fe in
     let d1 = ap (potentials p) pe in
     let d2 = ap (potentials p) fe in
-    (omega arith, omega arith)
+    let n = mass.classes in
+    let e0 = length-parts p t (members g) in
+    let e1 = ap length pe in
+    let e2 = ap length fe in
+    (omega arith, omega arith, omega arith)
 
 -- the sum of a test fits, and is at most the sum over the bounds of its parts
 pub record LeastSum (inst : Instance) (g : Group) (test cost weight pass fail : ℕ) : Type 0 where

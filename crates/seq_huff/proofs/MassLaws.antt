@@ -1,8 +1,8 @@
 -- The mass of a group: its sums go over the classes, its potential is at most 2 ^ 26 times its weight, and Huffman's cost is
 -- at least what it says.
-use Rattle.std.proofs.Common.{◌≡◌, ℕ, zero, suc, ◌+◌, ◌*◌, ◌^◌, ◌<◌, ◌≤◌, List, [], ◌∷◌, ◌++◌, length, refl, sym, ap, ◌∙◌, arith, inl, inr}
+use Rattle.std.proofs.Common.{◌≡◌, ℕ, zero, suc, ◌+◌, ◌*◌, ◌^◌, ◌<◌, ◌≤◌, List, [], ◌∷◌, ◌++◌, length, refl, sym, ap, ◌∙◌, arith, inl, inr, length-append}
 use Rattle.std.specs.Prelude.{true, false, map}
-use Rattle.std.proofs.lemmas.Bool.{cases_Bool, true≢false}
+use Rattle.std.proofs.lemmas.Bool.{cases_Bool, lt-leb, true≢false}
 use Rattle.std.proofs.lemmas.List.Sums.{sum_by-cons}
 use Rattle.seq_theory.specs.Problem.{Problem, IsIn, IsWithin, all_classes, weight_of, pass_part, fail_part, is_end}
 use Rattle.seq_theory.specs.Huffman.{place_in, upward, merging, huff}
@@ -14,8 +14,8 @@ use Rattle.seq_inst.specs.declared.group.Group.{Group}
 use Rattle.seq_inst.specs.declared.instance.Instance.{Instance}
 use Rattle.seq_inst.specs.Members.{has_class, members_below, members}
 use Rattle.seq_inst.specs.Instances.{problem_of}
-use Rattle.seq_inst.proofs.MembersLaws.{members_below-in}
-use Rattle.seq_inst.proofs.PartsLaws.{class-within, weight-members_below}
+use Rattle.seq_inst.proofs.MembersLaws.{members_below-in, length-members_below}
+use Rattle.seq_inst.proofs.PartsLaws.{is_end-length, class-within, weight-members_below}
 use Rattle.seq_inst.proofs.WithinLaws.{light}
 use Rattle.seq_huff.specs.declared.mass.Mass.{Mass}
 use Rattle.seq_huff.specs.Estimates.{IsMassOf}
@@ -44,6 +44,16 @@ module _ (p : Problem) where
   pub potentials-small : (xs : List ℕ) → potentials p xs ≤ 2 ^ 26 * weight_of p xs
   potentials-small [] = let g : potentials p [] ≡ 0 = refl in omega arith
   potentials-small (x ∷ xs) = let f = potentials-cons x xs in let g = potential-small (p.weight x) in let h = potentials-small xs in omega arith
+
+  -- the classes of both parts are as many as those of the group
+  pub length-parts : (t : ℕ) (xs : List ℕ) → length xs ≡ length (pass_part p t xs) + length (fail_part p t xs)
+  length-parts t [] = refl
+  length-parts t (x ∷ xs) =
+      let h = length-parts t xs in
+      elim (cases_Bool (p.passes t x)) [
+        | inl y ↦ rw y (omega arith)
+        | inr n ↦ rw n (omega arith)
+      ]
 
   -- the potentials of both parts are those of the group
   pub potentials-parts : (t : ℕ) (xs : List ℕ) → potentials p xs ≡ potentials p (pass_part p t xs) + potentials p (fail_part p t xs)
@@ -133,6 +143,10 @@ pub record MassSays (inst : Instance) (g : Group) (m : Mass) : Type 0 where
   pub low : potential m.weight ≤ m.potential + unit * huff (goal_weights (problem_of inst) (members g))
   pub whole : m.weight ≤ huff (goal_weights (problem_of inst) (members g))
 
+-- a group of two classes or more is no end
+pub is_end-many : (inst : Instance) (g : Group) (count : ℕ) → count ≡ length (members g) → 1 < count → is_end (problem_of inst) (members g) ≡ false
+is_end-many inst g count is many = sym (is_end-length inst g) ∙ lt-leb (length (members g)) 1 (omega arith)
+
 pub mass-says : (inst : Instance) (g : Group) (m : Mass) → IsWithin (problem_of inst) (members g) → is_end (problem_of inst) (members g) ≡ false → IsMassOf (problem_of inst) (members g) m → MassSays inst g m
 mass-says inst g m within more mass =
     let p = problem_of inst in
@@ -155,31 +169,36 @@ weight-small inst c lt =
     omega arith
 
 -- the sums over the classes of a group up to some class
-pub record MassBelow (inst : Instance) (classes : List ℕ) (weight potentials_sum : ℕ) : Type 0 where
+pub record MassBelow (inst : Instance) (classes : List ℕ) (count weight potentials_sum : ℕ) : Type 0 where
+  pub count_is : count ≡ length classes
   pub weight_is : weight ≡ weight_of (problem_of inst) classes
   pub potential_is : potentials_sum ≡ potentials (problem_of inst) classes
 
-pub mass-none : (inst : Instance) (classes : List ℕ) → classes ≡ [] → MassBelow inst classes 0 0
-mass-none inst classes e = record { weight_is = sym (ap (weight_of (problem_of inst)) e); potential_is = sym (ap (potentials (problem_of inst)) e) }
+pub mass-none : (inst : Instance) (classes : List ℕ) → classes ≡ [] → MassBelow inst classes 0 0 0
+mass-none inst classes e = record { count_is = sym (ap length e); weight_is = sym (ap (weight_of (problem_of inst)) e); potential_is = sym (ap (potentials (problem_of inst)) e) }
 
-pub mass-more : (inst : Instance) (classes more : List ℕ) (class weight potentials_sum w v : ℕ) → MassBelow inst classes weight potentials_sum → more ≡ classes ++ class ∷ [] → w ≡ (problem_of inst).weight class → v ≡ potential ((problem_of inst).weight class) → MassBelow inst more (weight + w) (potentials_sum + v)
-mass-more inst classes more class weight potentials_sum w v m e we ve =
+pub mass-more : (inst : Instance) (classes more : List ℕ) (class count weight potentials_sum w v : ℕ) → MassBelow inst classes count weight potentials_sum → more ≡ classes ++ class ∷ [] → w ≡ (problem_of inst).weight class → v ≡ potential ((problem_of inst).weight class) → MassBelow inst more (count + 1) (weight + w) (potentials_sum + v)
+mass-more inst classes more class count weight potentials_sum w v m e we ve =
     let p = problem_of inst in
     let a = m.weight_is in
     let b = m.potential_is in
     let c = ap (weight_of p) e ∙ weight-push p classes class in
     let d = ap (potentials p) e ∙ potentials-push p classes class in
-    record { weight_is = omega arith; potential_is = omega arith }
+    let n = m.count_is in
+    let l = ap length e ∙ length-append classes (class ∷ []) in
+    record { count_is = omega arith; weight_is = omega arith; potential_is = omega arith }
 
 -- they are small: the group weighs at most 4,097,000,000
-pub mass-small : (inst : Instance) (g : Group) (class weight potentials_sum w v : ℕ) → IsWithin (problem_of inst) (members g) → class < 512 → has_class g class ≡ true → MassBelow inst (members_below g class) weight potentials_sum → w ≡ (problem_of inst).weight class → v ≡ potential ((problem_of inst).weight class) → (weight + w ≤ 4097000000) × (potentials_sum + v < 2 ^ 64)
-mass-small inst g class weight potentials_sum w v within lt has m we ve =
+pub mass-small : (inst : Instance) (g : Group) (class count weight potentials_sum w v : ℕ) → IsWithin (problem_of inst) (members g) → class < 512 → has_class g class ≡ true → MassBelow inst (members_below g class) count weight potentials_sum → w ≡ (problem_of inst).weight class → v ≡ potential ((problem_of inst).weight class) → (count + 1 ≤ 512) × (weight + w ≤ 4097000000) × (potentials_sum + v < 2 ^ 64)
+mass-small inst g class count weight potentials_sum w v within lt has m we ve =
     let p = problem_of inst in
     let there = class-within p g class within lt has in
-    let more = mass-more inst (members_below g class) (members_below g (class + 1)) class weight potentials_sum w v m (members_below-in g class has) we ve in
+    let more = mass-more inst (members_below g class) (members_below g (class + 1)) class count weight potentials_sum w v m (members_below-in g class has) we ve in
     let a = more.weight_is in
     let b = more.potential_is in
     let c = weight-members_below p g (class + 1) (omega arith) in
     let d = inst.valid.total in
     let s = potentials-small p (members_below g (class + 1)) in
-    (omega arith, omega arith)
+    let n = more.count_is in
+    let few = length-members_below g (class + 1) in
+    (omega arith, omega arith, omega arith)

@@ -1,13 +1,14 @@
 -- What the estimates of a group's tests are made from.
-use Rattle.std.specs.Prelude.{◌≡◌, ℕ, ◌+◌, ◌-◌, ◌*◌, ◌/◌, ◌%◌, ◌<◌, max, List, slice_index}
+use Rattle.std.specs.Prelude.{◌≡◌, ℕ, ◌+◌, ◌-◌, ◌*◌, ◌/◌, ◌%◌, ◌<◌, max, List, length, slice_index}
 use Rattle.seq_theory.specs.Problem.{Problem, weight_of}
 use Rattle.seq_theory.specs.Bound.{sum_first, splitting_costs}
 use Rattle.seq_huff.specs.declared.mass.Mass.{Mass}
 use Rattle.seq_huff.specs.declared.estimate.Estimate.{Estimate}
 use Rattle.seq_huff.specs.Potential.{potentials}
 
--- the weight of a group, and the sum of the potentials of its classes
+-- how many classes a group has, what they weigh, and the sum of their potentials
 pub record IsMassOf (p : Problem) (group : List ℕ) (m : Mass) : Type 0 where
+  pub classes : m.classes ≡ length group
   pub weight : m.weight ≡ weight_of p group
   pub potential : m.potential ≡ potentials p group
 

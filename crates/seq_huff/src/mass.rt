@@ -1,7 +1,7 @@
-//! The mass of a group: what it weighs, and what the potential says of its classes together. Both are
-//! sums over the classes, so the mass of one part of a group gives that of the other; and the mass alone
-//! says how much Huffman's cost of the group is at least.
-ghost use Rattle.std.specs.Prelude.{◌≡◌, ◌+◌, ◌*◌, ◌^◌, ◌<◌, ◌≤◌, ℕ};
+//! The mass of a group: how many classes it has, what it weighs, and what the potential says of its classes
+//! together. All three are sums over the classes, so the mass of one part of a group gives that of the
+//! other; and the mass alone says how much Huffman's cost of the group is at least.
+ghost use Rattle.std.specs.Prelude.{◌≡◌, ◌+◌, ◌*◌, ◌^◌, ◌<◌, ◌≤◌, ℕ, length};
 ghost use Rattle.seq_theory.specs.Problem.{IsWithin, weight_of};
 ghost use Rattle.seq_theory.specs.Huffman.{huff};
 ghost use Rattle.seq_theory.specs.Bound.{goal_weights};
@@ -13,11 +13,12 @@ ghost use Rattle.seq_huff.specs.Estimates.{IsMassOf};
 
 use crate::order::Order;
 use crate::potential::{UNIT, nearly_potential};
-use seq_inst::{Group, Instance, count_of, is_leaf};
+use seq_inst::{Ahead, Group, Instance, count_of};
 
-/// The weight of some classes, and the sum of their potentials.
+/// How many classes there are, their weight, and the sum of their potentials.
 #[derive(Clone, Copy)]
 pub(crate) struct Mass {
+    pub(crate) classes: u32,
     pub(crate) weight: u64,
     pub(crate) potential: u64,
 }
@@ -35,25 +36,35 @@ pub(crate) fn mass_of(order: &Order, inst: &Instance, group: &Group) -> Mass
     requires within { IsWithin (problem_of inst.now) (members group.now) }
     ensures { IsMassOf (problem_of inst.now) (members group.now) result }
 {
+    let mut classes = 0;
     let mut weight = 0;
     let mut potential = 0;
-    let mut next = group.first_from(0);
+    let mut ahead = Ahead::of(group);
+    let mut next = ahead.next_class(group);
     while let Some(class) = next {
+        classes += 1;
         weight += inst.weights[class as usize];
         potential += order.potentials[class as usize];
-        next = group.first_from(class + 1);
+        next = ahead.next_class(group);
     }
-    Mass { weight, potential }
+    Mass {
+        classes,
+        weight,
+        potential,
+    }
 }
 
 /// What is left of a mass without a part of it.
 fn without(whole: Mass, part: Mass) -> Mass
+    requires classes { part.classes ≤ whole.classes }
     requires weight { part.weight ≤ whole.weight }
     requires potential { part.potential ≤ whole.potential }
+    ensures classes { result.classes + part.classes ≡ whole.classes }
     ensures weight { result.weight + part.weight ≡ whole.weight }
     ensures potential { result.potential + part.potential ≡ whole.potential }
 {
     Mass {
+        classes: whole.classes - part.classes,
         weight: whole.weight - part.weight,
         potential: whole.potential - part.potential,
     }
@@ -70,12 +81,13 @@ pub(crate) fn masses_of(
     requires order { IsOrderOf (problem_of inst.now) order.now }
     requires within_pass { IsWithin (problem_of inst.now) (members pass.now) }
     requires within_fail { IsWithin (problem_of inst.now) (members fail.now) }
+    requires classes { whole.classes ≡ length (members pass.now) + length (members fail.now) }
     requires weight { whole.weight ≡ weight_of (problem_of inst.now) (members pass.now) + weight_of (problem_of inst.now) (members fail.now) }
     requires potential { whole.potential ≡ potentials (problem_of inst.now) (members pass.now) + potentials (problem_of inst.now) (members fail.now) }
     ensures pass { IsMassOf (problem_of inst.now) (members pass.now) result.pass }
     ensures fail { IsMassOf (problem_of inst.now) (members fail.now) result.fail }
 {
-    if count_of(pass) <= count_of(fail) {
+    if count_of(pass) <= whole.classes / 2 {
         let mass = mass_of(order, inst, pass);
         PartMasses {
             pass: mass,
@@ -108,7 +120,9 @@ pub(crate) fn least_huffman(inst: &Instance, group: &Group, mass: Mass) -> u64
     requires mass { IsMassOf (problem_of inst.now) (members group.now) mass }
     ensures { result ≤ huff (goal_weights (problem_of inst.now) (members group.now)) }
 {
-    if is_leaf(inst, group) {
+    let _ = inst;
+    let _ = group;
+    if mass.classes <= 1 {
         0
     } else {
         huffman_by_mass(mass).max(mass.weight)

@@ -1,6 +1,7 @@
 pub mod MembersLaws
 pub mod WordLaws
 pub mod FirstLaws
+pub mod AheadLaws
 pub mod SameGroups
 pub mod PartsLaws
 pub mod RootLaws

@@ -1,16 +1,18 @@
 -- What the calls on groups owe.
-use Rattle.std.proofs.Common.{◌≡◌, ◌≢◌, ℕ, zero, suc, ◌+◌, ◌<◌, ◌≤◌, List, [], ◌∷◌, ◌++◌, length, refl, sym, ap, ◌∙◌, arith, inl, inr}
-use Rattle.std.specs.Prelude.{Bool, true, false, filter, nat_le, Option}
+use Rattle.std.proofs.Common.{◌≡◌, ◌≢◌, ℕ, zero, suc, ◌+◌, ◌-◌, ◌<◌, ◌≤◌, List, [], ◌∷◌, ◌++◌, length, refl, sym, ap, ◌∙◌, arith, inl, inr, length-append}
+use Rattle.std.specs.Prelude.{Bool, true, false, not, filter, nat_le, Option, Some, None}
+use Rattle.std.specs.Option.{is_some}
 use Rattle.std.proofs.lemmas.Bool.{cases_Bool, ne_eqb, le-leb, lt-leb}
 use Rattle.seq_theory.specs.Problem.{Problem, count_up, IsIn, IsWithin, weight_of, is_end, all_classes}
 use Rattle.seq_theory.proofs.LeastLaws.{count_up-IsIn, IsIn-count_up}
 use Rattle.seq_theory.proofs.GroupLaws.{IsIn-filter, filter-IsIn}
 use Rattle.seq_inst.specs.declared.group.Group.{Group}
 use Rattle.seq_inst.specs.declared.instance.Instance.{Instance}
-use Rattle.seq_inst.specs.Members.{has_class, members_below, members}
+use Rattle.seq_inst.specs.Members.{has_class, members_below, members, IsFirstFrom, HasNoneFrom}
+use Rattle.seq_inst.proofs.WordLaws.{members_below-split}
 use Rattle.seq_inst.specs.Instances.{problem_of}
 use Rattle.seq_inst.proofs.MembersLaws.{members_below-in, members_below-out}
-use Rattle.seq_inst.proofs.FirstLaws.{reached, IsFound, next-members}
+use Rattle.seq_inst.proofs.FirstLaws.{reached, IsFound, first-members, next-members}
 use Rattle.seq_inst.proofs.SameGroups.{class-member}
 
 -- two classes of a group differ
@@ -37,6 +39,38 @@ is_end-length inst g = go (members g) refl
     go (x ∷ []) e = le-leb 1 1 (omega arith)
     go (x ∷ y ∷ rest) e =
         lt-leb (suc (suc (length rest))) 1 (omega arith) ∙ sym (rw (ne_eqb y x (λ s. second_differs (has_class g) 0 512 x y rest e (sym s))) refl)
+
+longer : (g : Group) (n : ℕ) → n ≤ 512 → length (members_below g n) ≤ length (members g)
+longer g n le =
+    let e : 512 ≡ n + (512 - n) = omega arith in
+    let whole = ap length (ap (members_below g) e ∙ members_below-split g n (512 - n)) in
+    let both = length-append (members_below g n) (filter (has_class g) (count_up n (512 - n))) in
+    omega arith
+
+first-alone : (g : Group) (first : ℕ) (second : Option ℕ) → IsFirstFrom g 0 first → IsFound g (first + 1) second → length (members_below g (reached second)) ≡ 1
+first-alone g first second f s = ap length (next-members g first second f.in_range f.in_group s ∙ ap (λ l. l ++ first ∷ []) (first-members g (Some first) f))
+
+pub not-back : (a b : Bool) → a ≡ not b → b ≡ not a
+not-back a true e = sym (ap not e)
+not-back a false e = sym (ap not e)
+
+-- a group is an end where it has no class, or no second one
+pub is_end-none : (inst : Instance) (g : Group) → HasNoneFrom g 0 → true ≡ is_end (problem_of inst) (members g)
+is_end-none inst g none =
+    let empty = ap length (first-members g None none) in
+    sym (le-leb (length (members g)) 1 (omega arith)) ∙ is_end-length inst g
+
+pub is_end-first : (inst : Instance) (g : Group) (first : ℕ) (second : Option ℕ) → IsFirstFrom g 0 first → IsFound g (first + 1) second → not (is_some second) ≡ is_end (problem_of inst) (members g)
+is_end-first inst g first None f s =
+    let one = first-alone g first None f s in
+    sym (le-leb (length (members g)) 1 (omega arith)) ∙ is_end-length inst g
+is_end-first inst g first (Some c) f s =
+    let one = first-alone g first (Some c) f s in
+    let low = s.in_range in
+    let two = ap length (members_below-in g c s.in_group) in
+    let both = length-append (members_below g c) (c ∷ []) in
+    let long = longer g (c + 1) (omega arith) in
+    sym (lt-leb (length (members g)) 1 (omega arith)) ∙ is_end-length inst g
 
 module _ (p : Problem) where
   weight-append : (xs ys : List ℕ) → weight_of p (xs ++ ys) ≡ weight_of p xs + weight_of p ys

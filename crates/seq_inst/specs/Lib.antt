@@ -1,4 +1,5 @@
 pub mod Members
+pub mod Walks
 pub mod Valid
 pub mod Instances
 pub mod Answers

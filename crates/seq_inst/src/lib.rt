@@ -3,6 +3,7 @@
 //! them into the theory, and each call here says its result by the theory's words.
 #![tactic(auto)]
 
+mod ahead;
 mod costs;
 mod group;
 mod instance;
@@ -14,6 +15,7 @@ mod tests;
 mod walks;
 mod weights;
 
+pub use ahead::Ahead;
 pub use costs::cost_of;
 pub use group::{Group, count_of};
 pub use instance::Instance;

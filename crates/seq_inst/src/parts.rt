@@ -7,7 +7,7 @@ ghost use Rattle.seq_inst.specs.Members.{members};
 ghost use Rattle.seq_inst.specs.Instances.{problem_of};
 ghost use Rattle.seq_inst.specs.Answers.{is_pass};
 
-use crate::group::{Group, common, count_of, lacks, shares, without};
+use crate::group::{Group, common, lacks, shares, without};
 use crate::instance::Instance;
 
 /// What a test answers.
@@ -52,11 +52,15 @@ pub fn splits(inst: &Instance, group: &Group, test: u32) -> bool
     shares(group, passes) && lacks(group, passes)
 }
 
-/// Whether the group is an end: all its classes have one goal, so nothing is left to tell apart.
+/// Whether the group is an end: all its classes have one goal, so nothing is left to tell apart. That is
+/// so where there is no second class; most groups show one in their first word, so no class is counted.
 /// Each crate above tests this by this call alone.
 pub fn is_leaf(inst: &Instance, group: &Group) -> bool
     ensures { result ≡ is_end (problem_of inst.now) (members group.now) }
 {
     let _ = inst;
-    count_of(group) <= 1
+    match group.first_from(0) {
+        Some(first) => group.first_from(first + 1).is_none(),
+        None => true,
+    }
 }

@@ -1,9 +1,11 @@
-use Rattle.std.proofs.Common.{◌≡◌, ◌+◌, ◌∙◌, ℕ, refl, arith, subst}
+use Rattle.std.proofs.Common.{◌≡◌, ◌+◌, ◌∙◌, ℕ, ap, refl, arith, subst}
 use Rattle.std.specs.Prelude.{Option, Some}
 use Rattle.std.proofs.lemmas.List.{get_or_read}
 use Rattle.seq_inst.specs.Members.{members_below}
 use Rattle.seq_inst.specs.Instances.{problem_of}
-use Rattle.seq_inst.proofs.FirstLaws.{IsClass, reached, found-by, found-class, first-members, next-members}
+use Rattle.seq_inst.proofs.FirstLaws.{IsClass, reached, found-class, found-reached, first-members, next-members}
+use Rattle.seq_inst.specs.Walks.{IsAhead}
+use Rattle.seq_inst.proofs.AheadLaws.{IsAheadOf, next-is_found, next-is_ahead}
 use Rattle.seq_inst.proofs.PartsLaws.{class-within}
 use Rattle.seq_huff.specs.Potential.{potential}
 use Rattle.seq_huff.proofs.MassLaws.{MassBelow, mass-none, mass-more, mass-small}
@@ -11,10 +13,13 @@ use Rattle.seq_huff.proofs.mass.mass_of.Goals as goal
 
 pub loop-next-init : goal.loop-next-init
 loop-next-init c =
-    let found = found-by c.args.group.now 0 c.first_from-next.result c.first_from-next.ensures.found c.first_from-next.ensures.none in
+    let g = c.args.group.now in
+    let some = c.next_class-next.ensures.found 0 c.of-ahead.ensures in
+    let found = next-is_found g c.next_class-next.new.self 0 c.next_class-next.result some (c.next_class-next.ensures.none 0 c.of-ahead.ensures) in
     record {
-      class = found-class c.args.group.now 0 c.first_from-next.result found;
-      mass = mass-none c.args.inst.now _ (first-members c.args.group.now c.first_from-next.result found);
+      class = found-class g 0 c.next_class-next.result found;
+      ahead = next-is_ahead g c.next_class-next.new.self 0 c.next_class-next.result some;
+      mass = mass-none c.args.inst.now _ (first-members g c.next_class-next.result found);
     }
 
 pub index-requires : goal.index-requires
@@ -38,9 +43,9 @@ overflow_add-weight c =
     let class : IsClass c.args.group.now (Some c.in-Some.class) = subst (IsClass c.args.group.now) c.in-Some.is c.loop-next.invariant.class in
     let there = class-within p c.args.group.now c.in-Some.class c.requires.within class.0 class.1 in
     let w : c.index.result.now ≡ p.weight c.in-Some.class = get_or_read c.args.inst.now.weights.items c.in-Some.class c.index.result.now there c.index.ensures 0 in
-    let mass = subst (λ (o : Option ℕ). MassBelow c.args.inst.now (members_below c.args.group.now (reached o)) c.loop-next.weight c.loop-next.potential) c.in-Some.is c.loop-next.invariant.mass in
-    let small = mass-small c.args.inst.now c.args.group.now c.in-Some.class c.loop-next.weight c.loop-next.potential c.index.result.now (potential (p.weight c.in-Some.class)) c.requires.within class.0 class.1 mass w refl in
-    let a = small.0 in
+    let mass = subst (λ (o : Option ℕ). MassBelow c.args.inst.now (members_below c.args.group.now (reached o)) c.loop-next.classes c.loop-next.weight c.loop-next.potential) c.in-Some.is c.loop-next.invariant.mass in
+    let small = mass-small c.args.inst.now c.args.group.now c.in-Some.class c.loop-next.classes c.loop-next.weight c.loop-next.potential c.index.result.now (potential (p.weight c.in-Some.class)) c.requires.within class.0 class.1 mass w refl in
+    let a = small.1 in
     omega arith
 
 pub overflow_add-potential : goal.overflow_add-potential
@@ -51,9 +56,9 @@ overflow_add-potential c =
     let w : c.index.result.now ≡ p.weight c.in-Some.class = get_or_read c.args.inst.now.weights.items c.in-Some.class c.index.result.now there c.index.ensures 0 in
     let m = c.requires.order.as_many_potentials in
     let v : c.index-in-Some.result.now ≡ potential (p.weight c.in-Some.class) = get_or_read c.args.order.now.potentials.items c.in-Some.class c.index-in-Some.result.now (omega arith) c.index-in-Some.ensures 0 ∙ c.requires.order.potentials c.in-Some.class there in
-    let mass = subst (λ (o : Option ℕ). MassBelow c.args.inst.now (members_below c.args.group.now (reached o)) c.loop-next.weight c.loop-next.potential) c.in-Some.is c.loop-next.invariant.mass in
-    let small = mass-small c.args.inst.now c.args.group.now c.in-Some.class c.loop-next.weight c.loop-next.potential c.index.result.now c.index-in-Some.result.now c.requires.within class.0 class.1 mass w v in
-    let a = small.1 in
+    let mass = subst (λ (o : Option ℕ). MassBelow c.args.inst.now (members_below c.args.group.now (reached o)) c.loop-next.classes c.loop-next.weight c.loop-next.potential) c.in-Some.is c.loop-next.invariant.mass in
+    let small = mass-small c.args.inst.now c.args.group.now c.in-Some.class c.loop-next.classes c.loop-next.weight c.loop-next.potential c.index.result.now c.index-in-Some.result.now c.requires.within class.0 class.1 mass w v in
+    let a = small.2 in
     omega arith
 
 pub loop-next-preserved : goal.loop-next-preserved
@@ -65,9 +70,40 @@ loop-next-preserved c =
     let w : c.index.result.now ≡ p.weight c.in-Some.class = get_or_read c.args.inst.now.weights.items c.in-Some.class c.index.result.now there c.index.ensures 0 in
     let m = c.requires.order.as_many_potentials in
     let v : c.index-in-Some.result.now ≡ potential (p.weight c.in-Some.class) = get_or_read c.args.order.now.potentials.items c.in-Some.class c.index-in-Some.result.now (omega arith) c.index-in-Some.ensures 0 ∙ c.requires.order.potentials c.in-Some.class there in
-    let mass = subst (λ (o : Option ℕ). MassBelow c.args.inst.now (members_below g (reached o)) c.loop-next.weight c.loop-next.potential) c.in-Some.is c.loop-next.invariant.mass in
-    let found = found-by g (c.in-Some.class + 1) c.first_from-next-in-Some.result c.first_from-next-in-Some.ensures.found c.first_from-next-in-Some.ensures.none in
+    let mass = subst (λ (o : Option ℕ). MassBelow c.args.inst.now (members_below g (reached o)) c.loop-next.classes c.loop-next.weight c.loop-next.potential) c.in-Some.is c.loop-next.invariant.mass in
+    let ahead : IsAhead g c.loop-next.ahead (c.in-Some.class + 1) = subst (IsAheadOf g c.loop-next.ahead) c.in-Some.is c.loop-next.invariant.ahead in
+    let some = c.next_class-next-in-Some.ensures.found (c.in-Some.class + 1) ahead in
+    let found = next-is_found g c.next_class-next-in-Some.new.self (c.in-Some.class + 1) c.next_class-next-in-Some.result some (c.next_class-next-in-Some.ensures.none (c.in-Some.class + 1) ahead) in
     record {
-      class = found-class g (c.in-Some.class + 1) c.first_from-next-in-Some.result found;
-      mass = mass-more c.args.inst.now (members_below g c.in-Some.class) (members_below g (reached c.first_from-next-in-Some.result)) c.in-Some.class c.loop-next.weight c.loop-next.potential c.index.result.now c.index-in-Some.result.now mass (next-members g c.in-Some.class c.first_from-next-in-Some.result class.0 class.1 found) w v;
+      class = found-class g (c.in-Some.class + 1) c.next_class-next-in-Some.result found;
+      ahead = next-is_ahead g c.next_class-next-in-Some.new.self (c.in-Some.class + 1) c.next_class-next-in-Some.result some;
+      mass = mass-more c.args.inst.now (members_below g c.in-Some.class) (members_below g (reached c.next_class-next-in-Some.result)) c.in-Some.class c.loop-next.classes c.loop-next.weight c.loop-next.potential c.index.result.now c.index-in-Some.result.now mass (next-members g c.in-Some.class c.next_class-next-in-Some.result class.0 class.1 found) w v;
     }
+
+pub overflow_add-classes : goal.overflow_add-classes
+overflow_add-classes c =
+    let p = problem_of c.args.inst.now in
+    let class : IsClass c.args.group.now (Some c.in-Some.class) = subst (IsClass c.args.group.now) c.in-Some.is c.loop-next.invariant.class in
+    let mass = subst (λ (o : Option ℕ). MassBelow c.args.inst.now (members_below c.args.group.now (reached o)) c.loop-next.classes c.loop-next.weight c.loop-next.potential) c.in-Some.is c.loop-next.invariant.mass in
+    let small = mass-small c.args.inst.now c.args.group.now c.in-Some.class c.loop-next.classes c.loop-next.weight c.loop-next.potential (p.weight c.in-Some.class) (potential (p.weight c.in-Some.class)) c.requires.within class.0 class.1 mass refl refl in
+    let a = small.0 in
+    omega arith
+
+pub next_class-next-requires-in-Some : goal.next_class-next-requires-in-Some
+next_class-next-requires-in-Some c = (subst (IsAheadOf c.args.group.now c.loop-next.ahead) c.in-Some.is c.loop-next.invariant.ahead).there
+
+pub loop-next-smaller : goal.loop-next-smaller
+loop-next-smaller c =
+    let g = c.args.group.now in
+    let class : IsClass g (Some c.in-Some.class) = subst (IsClass g) c.in-Some.is c.loop-next.invariant.class in
+    let low = class.0 in
+    let ahead : IsAhead g c.loop-next.ahead (c.in-Some.class + 1) = subst (IsAheadOf g c.loop-next.ahead) c.in-Some.is c.loop-next.invariant.ahead in
+    let found = next-is_found g c.next_class-next-in-Some.new.self (c.in-Some.class + 1) c.next_class-next-in-Some.result (c.next_class-next-in-Some.ensures.found (c.in-Some.class + 1) ahead) (c.next_class-next-in-Some.ensures.none (c.in-Some.class + 1) ahead) in
+    let more = found-reached g (c.in-Some.class + 1) c.next_class-next-in-Some.result (omega arith) found in
+    let here = ap reached c.in-Some.is in
+    omega arith
+
+pub returns : goal.returns
+returns c =
+    let mass = subst (λ (o : Option ℕ). MassBelow c.args.inst.now (members_below c.args.group.now (reached o)) c.loop-next.classes c.loop-next.weight c.loop-next.potential) c.in_default.is c.loop-next.invariant.mass in
+    record { classes = mass.count_is; weight = mass.weight_is; potential = mass.potential_is }

@@ -13,11 +13,14 @@ masses_of-masses-requires-clause-within_pass c = within-pass (problem_of c.args.
 pub masses_of-masses-requires-clause-within_fail : goal.masses_of-masses-requires-clause-within_fail
 masses_of-masses-requires-clause-within_fail c = within-fail (problem_of c.args.inst.now) (members c.args.group.now) (members c.part-fail.result) c.args.test c.requires.within c.part-fail.ensures
 
+pub masses_of-masses-requires-clause-classes : goal.masses_of-masses-requires-clause-classes
+masses_of-masses-requires-clause-classes c = (mass-parts c.args.inst.now c.args.group.now c.part-pass.result c.part-fail.result c.args.test c.args.self.now.mass c.requires.of.mass c.part-pass.ensures c.part-fail.ensures).0
+
 pub masses_of-masses-requires-clause-weight : goal.masses_of-masses-requires-clause-weight
-masses_of-masses-requires-clause-weight c = (mass-parts c.args.inst.now c.args.group.now c.part-pass.result c.part-fail.result c.args.test c.args.self.now.mass c.requires.of.mass c.part-pass.ensures c.part-fail.ensures).0
+masses_of-masses-requires-clause-weight c = (mass-parts c.args.inst.now c.args.group.now c.part-pass.result c.part-fail.result c.args.test c.args.self.now.mass c.requires.of.mass c.part-pass.ensures c.part-fail.ensures).1
 
 pub masses_of-masses-requires-clause-potential : goal.masses_of-masses-requires-clause-potential
-masses_of-masses-requires-clause-potential c = (mass-parts c.args.inst.now c.args.group.now c.part-pass.result c.part-fail.result c.args.test c.args.self.now.mass c.requires.of.mass c.part-pass.ensures c.part-fail.ensures).1
+masses_of-masses-requires-clause-potential c = (mass-parts c.args.inst.now c.args.group.now c.part-pass.result c.part-fail.result c.args.test c.args.self.now.mass c.requires.of.mass c.part-pass.ensures c.part-fail.ensures).2
 
 pub least_huffman-pass_huffman-requires-clause-within : goal.least_huffman-pass_huffman-requires-clause-within
 least_huffman-pass_huffman-requires-clause-within c = within-pass (problem_of c.args.inst.now) (members c.args.group.now) (members c.part-pass.result) c.args.test c.requires.within c.part-pass.ensures
