@@ -5,10 +5,12 @@ use Rattle.std.specs.Prelude.{map, slice_index}
 use Rattle.std.proofs.lemmas.Bool.{cases_lt}
 use Rattle.std.proofs.lemmas.List.{get_or-map, length-map}
 use Rattle.seq_theory.specs.Problem.{Problem, IsWithin}
+use Rattle.seq_theory.specs.Bound.{bound}
 use Rattle.seq_theory.specs.Graph.{low, val}
 use Rattle.seq_theory.specs.Rows.{most_low, least_up}
 use Rattle.seq_theory.proofs.LowLaws.{low-le-least}
-use Rattle.seq_theory.proofs.GreedyLaws.{least-le-greedy}
+use Rattle.seq_theory.proofs.GreedyLaws.{least-le-greedy, bound-le-least}
+use Rattle.seq_theory.proofs.ValLaws.{least-le-val}
 use Rattle.seq_inst.specs.declared.group.Group.{Group}
 use Rattle.seq_inst.specs.declared.instance.Instance.{Instance}
 use Rattle.seq_inst.specs.declared.outcome.Row.{Row}
@@ -19,14 +21,14 @@ use Rattle.seq_huff.specs.Orders.{IsUpwardBy}
 use Rattle.seq_huff.proofs.CountedLaws.{counted-length, counted-there, counted-below}
 use Rattle.seq_huff.proofs.GreedyCode.{greedy-small}
 use Rattle.seq_huff.proofs.LeastBounds.{weighed}
-use Rattle.seq_core.specs.RowsOf.{rows_of, AreFit}
+use Rattle.seq_core.specs.RowsOf.{row_of, rows_of}
 use Rattle.seq_core.specs.Changes.{new_row, change_row, raised, capped}
 use Rattle.seq_core.specs.Tables.{Table, IsTableOf}
 use Rattle.seq_core.specs.Allowed.{IsMostLow, IsLeastUp, tight_row, tightened}
 use Rattle.seq_core.specs.Settled.{groups_in, value_or, AreGroups, settled_row, settled_rows, first_row, row_at, size_at, sizes_of, AreDoneBelow, IsAmongFirst, IsSettledTo}
-use Rattle.seq_core.proofs.TableLaws.{get-row}
+use Rattle.seq_core.proofs.TableLaws.{get-row, row-among}
 use Rattle.seq_core.proofs.ChangeLaws.{kept-change, fit-change, length-change}
-use Rattle.seq_core.proofs.SettleLaws.{group-at, raised-settled, capped-settled, settled-more, settled-all, fresh-settling}
+use Rattle.seq_core.proofs.SettleLaws.{group-at, value-at, raised-settled, capped-settled, settled-more, settled-all, fresh-settling}
 
 change-same : (rows : List Row) (k : ℕ) (f : Row → Row) → k < length rows → row_at (change_row rows k f) k ≡ f (row_at rows k)
 change-same [] k f lt = absurd (let bad : ⊥ = omega arith in bad)
@@ -68,6 +70,17 @@ low-fits inst entered g within =
     let a = low-le-least (problem_of inst) entered (members g) (weighed inst) inst.valid.told within in
     let b = least-le-greedy (problem_of inst) (members g) inst.valid.told within in
     let c = greedy-small inst g within in
+    omega arith
+
+-- the bound is at most the value
+bound-le-value : (inst : Instance) (rows : List Row) (k : ℕ) → AreGroups (problem_of inst) rows → k < length rows → bound (problem_of inst) (members (row_at rows k).group) ≤ value_or (val (problem_of inst) (groups_in rows) (members (row_at rows k).group))
+bound-le-value inst rows k groups there =
+    let p = problem_of inst in
+    let at = group-at p rows k groups there in
+    let v = value-at inst rows k groups there in
+    let a = bound-le-least p (members (row_at rows k).group) (weighed inst) inst.valid.told at.within in
+    let b = least-le-val p (groups_in rows) (members (row_at rows k).group) v.value inst.valid.told at.within v.is in
+    let e = ap value_or v.is in
     omega arith
 
 abbrev pub HasOrder : List Row → List ℕ → Type 0
@@ -122,13 +135,13 @@ settled-next inst rows t order n by lt s =
     ∙ ap (λ x. record { group = (row_at rows k).group; low = x; up = min r.up (least_up p (rows_of t.rows) (members r.group)) }) low_is
     ∙ ap (λ x. record { group = (row_at rows k).group; low = low p entered g; up = x }) up_is in
     let fits = low-fits inst entered (row_at rows k).group at.within in
+    let above = bound-le-value inst rows k s.settling.groups there in
+    let same_bound = ap (λ (x : Group). bound p (members x)) same in
+    let fit = s.of.fit (row_of r) (row-among t.rows k lt_now) in
     record {
       of = record {
         kept = kept-change p t.rows t.kept k (tight_row p t.rows) (λ x. refl) s.of.kept;
-        fit = subst (λ l. AreFit p (rows_of l))
-            (change-agree t.rows k (λ x. record { group = x.group; low = max x.low (most_low p (rows_of t.rows) (members r.group)); up = min x.up (least_up p (rows_of t.rows) (members r.group)) }) (tight_row p t.rows) refl)
-            (fit-change p t.rows k (λ x. record { group = x.group; low = max x.low (most_low p (rows_of t.rows) (members r.group)); up = min x.up (least_up p (rows_of t.rows) (members r.group)) })
-            (λ x f. record { within = f.within; goals = f.goals; small = (let l = f.small in omega arith) }) s.of.fit);
+        fit = fit-change p t.rows k (tight_row p t.rows) (record { within = fit.within; goals = fit.goals; small = omega arith; above = omega arith }) s.of.fit;
       };
       settling = settled-more p rows t.rows (tightened p t.rows k) (IsAmongFirst order n) (IsAmongFirst order (n + 1)) k s.settling (length-change t.rows k (tight_row p t.rows))
           (change-same t.rows k (tight_row p t.rows) lt_now ∙ settled)

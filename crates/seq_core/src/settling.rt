@@ -72,8 +72,9 @@ fn settle_row(
     requires there { place < length table.old.rows }
     ensures { table.new ≡ record table.old { rows = tightened (problem_of inst.now) table.old.rows place } }
 {
-    let low = table.most_low(scratch, inst, numbers, place);
-    let up = table.least_up(inst, place);
+    let estimates = table.estimates(inst, numbers, place);
+    let low = table.most_low(scratch, inst, numbers, place, &estimates);
+    let up = table.least_up(inst, place, &estimates);
     table.raise(place, low);
     table.cap(place, up);
 }
