@@ -45,13 +45,10 @@ capped-rows [] k to = refl
 capped-rows (r ∷ rest) zero to = refl
 capped-rows (r ∷ rest) (suc k) to = ap (λ (l : List TheoryRow). row_of r ∷ l) (capped-rows rest k to)
 
--- the rows fit after the change where each row's change fits
-pub fit-change : (p : Problem) (rows : List Row) (k : ℕ) (f : Row → Row) → ((r : Row) → IsFit p (row_of r) → IsFit p (row_of (f r))) → AreFit p (rows_of rows) → AreFit p (rows_of (change_row rows k f))
-fit-change p [] k f each a x i = absurd i
-fit-change p (r ∷ rest) zero f each a x (inl e) = subst (IsFit p) e (each r (a (row_of r) (inl refl)))
-fit-change p (r ∷ rest) zero f each a x (inr i) = a x (inr i)
-fit-change p (r ∷ rest) (suc k) f each a x (inl e) = a x (inl e)
-fit-change p (r ∷ rest) (suc k) f each a x (inr i) = fit-change p rest k f each (λ y j. a y (inr j)) x i
-
-pub fit-capped : (p : Problem) (rows : List Row) (k to : ℕ) → AreFit p (rows_of rows) → AreFit p (rows_of (change_row rows k (capped to)))
-fit-capped p rows k to a = fit-change p rows k (capped to) (λ r f. record { within = f.within; goals = f.goals; small = f.small }) a
+-- the rows fit after the change where the changed row fits
+pub fit-change : (p : Problem) (rows : List Row) (k : ℕ) (f : Row → Row) → IsFit p (row_of (f (get_or rows k no_row))) → AreFit p (rows_of rows) → AreFit p (rows_of (change_row rows k f))
+fit-change p [] k f one a x i = absurd i
+fit-change p (r ∷ rest) zero f one a x (inl e) = subst (IsFit p) e one
+fit-change p (r ∷ rest) zero f one a x (inr i) = a x (inr i)
+fit-change p (r ∷ rest) (suc k) f one a x (inl e) = a x (inl e)
+fit-change p (r ∷ rest) (suc k) f one a x (inr i) = fit-change p rest k f one (λ y j. a y (inr j)) x i

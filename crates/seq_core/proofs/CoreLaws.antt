@@ -7,7 +7,7 @@ use Rattle.seq_theory.specs.Graph.{is_entered, IsReal}
 use Rattle.seq_theory.specs.Greedy.{greedy_cost}
 use Rattle.seq_theory.specs.Rows.{Row as TheoryRow, groups_of, IsRow, IsSound, IsAllowed, enter, raise, cap, after, most_low, least_up}
 use Rattle.seq_theory.proofs.RowLaws.{events-sound, none-sound, sound-bounds, wanted-within}
-use Rattle.seq_theory.proofs.GreedyLaws.{least-le-greedy}
+use Rattle.seq_theory.proofs.GreedyLaws.{least-le-greedy, bound-le-least}
 use Rattle.seq_inst.specs.declared.instance.Instance.{Instance}
 use Rattle.seq_inst.specs.declared.outcome.Row.{Row}
 use Rattle.seq_inst.specs.Members.{members}
@@ -41,11 +41,14 @@ sound-fit inst limit rows s x i =
     let within = wanted-within p x.group real.wanted in
     let c = row-code rows x i in
     let wc : IsWithin p (members (c.0).group) = subst (λ (y : TheoryRow). IsWithin p y.group) (sym c.1) within in
-    let a = (sound-bounds p limit (rows_of rows) x (weighed inst) inst.valid.told s i).0 in
+    let between = sound-bounds p limit (rows_of rows) x (weighed inst) inst.valid.told s i in
+    let a = between.0 in
+    let most = between.1 in
+    let under = bound-le-least p x.group (weighed inst) inst.valid.told within in
     let b = least-le-greedy p x.group inst.valid.told within in
     let g = ap (λ (y : TheoryRow). greedy_cost p y.group) c.1 in
     let d = greedy-small inst (c.0).group wc in
-    record { within = within; goals = real.goals; small = omega arith }
+    record { within = within; goals = real.goals; small = omega arith; above = omega arith }
 
 -- the core of a table and numbers
 abbrev pub core_from : Table → Numbered → CoreState

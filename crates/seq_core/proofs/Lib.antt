@@ -3,6 +3,7 @@ pub mod MappingLaws
 pub mod TableLaws
 pub mod ChangeLaws
 pub mod SumLaws
+pub mod SkipLaws
 pub mod CoreLaws
 pub mod SettleLaws
 pub mod SettleSteps

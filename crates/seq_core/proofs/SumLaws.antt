@@ -16,7 +16,6 @@ use Rattle.seq_inst.specs.Instances.{problem_of}
 use Rattle.seq_inst.proofs.WithinLaws.{light}
 use Rattle.seq_huff.proofs.BoundFits.{product-le}
 use Rattle.seq_theory.proofs.ValLaws.{least_of-first}
-use Rattle.seq_theory.proofs.LeastOfLaws.{lesser as theory_lesser}
 use Rattle.seq_core.specs.declared.worth.Worth.{Worth}
 use Rattle.seq_core.specs.RowsOf.{row_of, rows_of}
 use Rattle.seq_core.specs.Tables.{AreWorthsOf}
@@ -32,13 +31,9 @@ first-fits inst g cost weight test within there ce we =
     let m = product-le cost weight 1000000 4097000000 (omega arith) (omega arith) in
     omega arith
 
-pub lesser-same : (o : Option ℕ) (n : ℕ) → lesser o n ≡ theory_lesser o n
-lesser-same None n = refl
-lesser-same (Some m) n = refl
-
 -- ---- what a place allows ----
 
-some-row : (a b : TheoryRow) (o : Option TheoryRow) → o ≡ Some a → o ≡ Some b → a ≡ b
+pub some-row : (a b : TheoryRow) (o : Option TheoryRow) → o ≡ Some a → o ≡ Some b → a ≡ b
 some-row a b o e f = cc
 
 pub allowed-low : (p : Problem) (rows : List Row) (kept : List Worth) (place bound_kept least n : ℕ) → AreWorthsOf p rows kept → place < length rows → bound_kept ≡ (get_or kept place no_kept).bound

@@ -129,7 +129,10 @@ impl Core {
         if place >= rows {
             return Err(Illegal::NoPlace { rows });
         }
-        let allowed = self.entered.most_low(scratch, inst, &self.numbers, place);
+        let estimates = self.entered.estimates(inst, &self.numbers, place);
+        let allowed = self
+            .entered
+            .most_low(scratch, inst, &self.numbers, place, &estimates);
         if to > allowed {
             return Err(Illegal::TooHigh { asked: to, allowed });
         }
@@ -150,7 +153,8 @@ impl Core {
         if place >= rows {
             return Err(Illegal::NoPlace { rows });
         }
-        let allowed = self.entered.least_up(inst, place);
+        let estimates = self.entered.estimates(inst, &self.numbers, place);
+        let allowed = self.entered.least_up(inst, place, &estimates);
         if to < allowed {
             return Err(Illegal::TooLow { asked: to, allowed });
         }

@@ -1,12 +1,12 @@
 //! The entered groups with their bounds: a row for each, what is kept of it, and the map that finds its
 //! place. From them comes to what a group's low may be raised, and to what its up may be capped: a part
 //! that has a row counts by its row, any other by its bound, which the numbers know as a rule, and has no
-//! up.
-ghost use Rattle.std.specs.Prelude.{◌≡◌, ◌++◌, ◌∷◌, [], ◌<◌, ◌≤◌, false, length, map, IfOk, Option, None, Some, vec_len};
+//! up. Both are the least of sums over the group's tests, and most tests need no sum: a test's estimate is
+//! at most its sum over the bounds of its parts, and no part counts less than its bound.
+ghost use Rattle.std.specs.Prelude.{◌≡◌, ◌++◌, ◌∷◌, [], ◌<◌, ◌≤◌, true, false, length, map, IfOk, Option, None, Some, vec_len};
 ghost use Rattle.std.specs.List.{filter_map};
-ghost use Rattle.seq_theory.specs.Problem.{IsWithin, is_end, weight_of as weight_sum, least_of, splitting};
-ghost use Rattle.seq_theory.specs.Bound.{step_sum};
-ghost use Rattle.seq_theory.specs.Graph.{step_value};
+ghost use Rattle.seq_theory.specs.Problem.{IsWithin, is_end, weight_of as weight_sum, least_of, splits as is_split, splitting};
+ghost use Rattle.seq_theory.specs.Bound.{bound, step_sum};
 ghost use Rattle.seq_theory.specs.Rows.{known_low as known_low_of, known_up as known_up_of};
 ghost use Rattle.seq_inst.specs.Members.{members};
 ghost use Rattle.seq_inst.specs.Instances.{problem_of};
@@ -15,9 +15,11 @@ ghost use Rattle.seq_core.specs.Numbered.{AreNumbers};
 ghost use Rattle.seq_core.specs.RowsOf.{rows_of, place_in};
 ghost use Rattle.seq_core.specs.Tables.{IsTableOf};
 ghost use Rattle.seq_core.specs.Changes.{change_row, new_row, raised, capped};
-ghost use Rattle.seq_core.specs.Sums.{capped_value, lesser};
-ghost use Rattle.seq_core.specs.Allowed.{IsMostLow, IsLeastUp};
+ghost use Rattle.seq_core.specs.Choice.{AreEstimates};
+ghost use Rattle.seq_core.specs.Sums.{low_sum, up_sum, IsSumOf, capped_value, lesser};
+ghost use Rattle.seq_core.specs.Allowed.{AreEstimatesAt, IsMostLow, IsLeastUp};
 
+use crate::greedy::Estimates;
 use crate::numbers::Numbers;
 use crate::places::Places;
 use crate::worth::Worth;
@@ -200,7 +202,7 @@ impl Entered {
         requires within { IsWithin (problem_of inst.now) (members group.now) }
         requires there { test < vec_len inst.now.costs }
         requires weight { weight ≡ weight_sum (problem_of inst.now) (members group.now) }
-        ensures { result ≡ step_sum (problem_of inst.now) (known_low_of (problem_of inst.now) (rows_of self.now.rows)) (members group.now) test }
+        ensures { result ≡ low_sum (problem_of inst.now) self.now.rows (members group.now) test }
     {
         let pass_part = part(inst, group, test, Answer::Pass);
         let pass = self.known_low(scratch, inst, numbers, &pass_part);
@@ -209,7 +211,42 @@ impl Entered {
         u64::from(inst.costs[test as usize]) * weight + (pass + fail)
     }
 
-    /// The least of these sums over the splitting tests.
+    /// The lesser of a sum and that of another test, if this splits the group. It isn't worked out where the
+    /// test's estimate is not below the sum that is known.
+    fn lesser_low_sum(
+        &self,
+        scratch: &mut Scratch,
+        inst: &Instance,
+        numbers: &Numbers,
+        group: &Group,
+        weight: u64,
+        least: u64,
+        test: u32,
+        estimate: u64,
+    ) -> u64
+        requires numbers { AreNumbers (problem_of inst.now) numbers.now }
+        requires of { IsTableOf (problem_of inst.now) self.now }
+        requires within { IsWithin (problem_of inst.now) (members group.now) }
+        requires weight { weight ≡ weight_sum (problem_of inst.now) (members group.now) }
+        requires sum { IsSumOf (problem_of inst.now) (members group.now) (low_sum (problem_of inst.now) self.now.rows (members group.now)) least }
+        requires there { test < vec_len inst.now.costs }
+        requires estimate { is_split (problem_of inst.now) (members group.now) test ≡ true → estimate ≤ step_sum (problem_of inst.now) (bound (problem_of inst.now)) (members group.now) test }
+        ensures sum { IsSumOf (problem_of inst.now) (members group.now) (low_sum (problem_of inst.now) self.now.rows (members group.now)) result }
+        ensures least { result ≤ least }
+        ensures test { is_split (problem_of inst.now) (members group.now) test ≡ true → result ≤ low_sum (problem_of inst.now) self.now.rows (members group.now) test }
+    {
+        if least <= estimate {
+            return least;
+        }
+        if splits(inst, group, test) {
+            let sum = self.low_sum(scratch, inst, numbers, group, test, weight);
+            return least.min(sum);
+        }
+        least
+    }
+
+    /// The least of these sums over the splitting tests. The test of least estimate is asked first, so that
+    /// most others need no sum.
     fn least_low_sum(
         &self,
         scratch: &mut Scratch,
@@ -217,22 +254,36 @@ impl Entered {
         numbers: &Numbers,
         group: &Group,
         weight: u64,
+        estimates: &Estimates,
     ) -> u64
         requires numbers { AreNumbers (problem_of inst.now) numbers.now }
         requires of { IsTableOf (problem_of inst.now) self.now }
         requires within { IsWithin (problem_of inst.now) (members group.now) }
         requires weight { weight ≡ weight_sum (problem_of inst.now) (members group.now) }
-        ensures { result ≡ least_of (map (step_sum (problem_of inst.now) (known_low_of (problem_of inst.now) (rows_of self.now.rows)) (members group.now)) (splitting (problem_of inst.now) (members group.now))) }
+        requires estimates { AreEstimates (problem_of inst.now) (members group.now) estimates.now }
+        ensures { result ≡ least_of (map (low_sum (problem_of inst.now) self.now.rows (members group.now)) (splitting (problem_of inst.now) (members group.now))) }
     {
+        let mut least = self.low_sum(scratch, inst, numbers, group, estimates.first, weight);
         let tests = inst.costs.len() as u32;
-        let mut least = None;
         for test in 0..tests {
-            if splits(inst, group, test) {
-                let sum = self.low_sum(scratch, inst, numbers, group, test, weight);
-                least = Some(lesser_of(least, sum));
+            if test != estimates.first {
+                let estimate = estimates.of_tests[test as usize];
+                least = self.lesser_low_sum(
+                    scratch, inst, numbers, group, weight, least, test, estimate,
+                );
             }
         }
-        least.unwrap_or(0)
+        least
+    }
+
+    /// The estimates of the tests that split the group of the row at the place.
+    pub(crate) fn estimates(&self, inst: &Instance, numbers: &Numbers, place: u32) -> Estimates
+        requires numbers { AreNumbers (problem_of inst.now) numbers.now }
+        requires of { IsTableOf (problem_of inst.now) self.now }
+        requires there { place < length self.now.rows }
+        ensures { AreEstimatesAt (problem_of inst.now) self.now.rows place result }
+    {
+        numbers.estimates(inst, &self.rows[place as usize].group)
     }
 
     /// The most to which the row at the place may be raised.
@@ -242,15 +293,17 @@ impl Entered {
         inst: &Instance,
         numbers: &Numbers,
         place: u32,
+        estimates: &Estimates,
     ) -> u64
         requires numbers { AreNumbers (problem_of inst.now) numbers.now }
         requires of { IsTableOf (problem_of inst.now) self.now }
         requires there { place < length self.now.rows }
+        requires estimates { AreEstimatesAt (problem_of inst.now) self.now.rows place estimates.now }
         ensures { IsMostLow (problem_of inst.now) self.now.rows place result }
     {
         let group = self.rows[place as usize].group;
         let kept = self.kept[place as usize];
-        let least = self.least_low_sum(scratch, inst, numbers, &group, kept.weight);
+        let least = self.least_low_sum(scratch, inst, numbers, &group, kept.weight, estimates);
         kept.bound.max(least)
     }
 
@@ -260,7 +313,7 @@ impl Entered {
         requires within { IsWithin (problem_of inst.now) (members group.now) }
         requires there { test < vec_len inst.now.costs }
         requires weight { weight ≡ weight_sum (problem_of inst.now) (members group.now) }
-        ensures { result ≡ capped_value (step_value (problem_of inst.now) (known_up_of (problem_of inst.now) (rows_of self.now.rows)) (members group.now) test) }
+        ensures { result ≡ capped_value (up_sum (problem_of inst.now) self.now.rows (members group.now) test) }
     {
         let pass_part = part(inst, group, test, Answer::Pass);
         let pass = self.known_up(inst, &pass_part)?;
@@ -270,31 +323,68 @@ impl Entered {
         Some(first.saturating_add(pass).saturating_add(fail))
     }
 
-    /// The least of greedy's cost and of these sums over the splitting tests.
-    fn least_up_sum(&self, inst: &Instance, group: &Group, weight: u64, greedy: u64) -> u64
+    /// The lesser of a sum and that of another test, if this splits the group and has one. It isn't worked
+    /// out where the test's estimate is not below the sum that is known: no up is below the bound.
+    fn lesser_up_sum(
+        &self,
+        inst: &Instance,
+        group: &Group,
+        weight: u64,
+        least: u64,
+        test: u32,
+        estimate: u64,
+    ) -> u64
+        requires of { IsTableOf (problem_of inst.now) self.now }
         requires within { IsWithin (problem_of inst.now) (members group.now) }
         requires weight { weight ≡ weight_sum (problem_of inst.now) (members group.now) }
-        ensures { result ≡ least_of (greedy ∷ filter_map (step_value (problem_of inst.now) (known_up_of (problem_of inst.now) (rows_of self.now.rows)) (members group.now)) (splitting (problem_of inst.now) (members group.now))) }
+        requires there { test < vec_len inst.now.costs }
+        requires estimate { is_split (problem_of inst.now) (members group.now) test ≡ true → estimate ≤ step_sum (problem_of inst.now) (bound (problem_of inst.now)) (members group.now) test }
+        ensures splits { is_split (problem_of inst.now) (members group.now) test ≡ true → result ≡ lesser (capped_value (up_sum (problem_of inst.now) self.now.rows (members group.now) test)) least }
+        ensures other { is_split (problem_of inst.now) (members group.now) test ≡ false → result ≡ least }
+    {
+        if estimate >= least {
+            return least;
+        }
+        if splits(inst, group, test) {
+            return lesser_of(self.up_sum(inst, group, test, weight), least);
+        }
+        least
+    }
+
+    /// The least of greedy's cost and of these sums over the splitting tests.
+    fn least_up_sum(
+        &self,
+        inst: &Instance,
+        group: &Group,
+        weight: u64,
+        greedy: u64,
+        estimates: &Estimates,
+    ) -> u64
+        requires of { IsTableOf (problem_of inst.now) self.now }
+        requires within { IsWithin (problem_of inst.now) (members group.now) }
+        requires weight { weight ≡ weight_sum (problem_of inst.now) (members group.now) }
+        requires estimates { AreEstimates (problem_of inst.now) (members group.now) estimates.now }
+        ensures { result ≡ least_of (greedy ∷ filter_map (up_sum (problem_of inst.now) self.now.rows (members group.now)) (splitting (problem_of inst.now) (members group.now))) }
     {
         let tests = inst.costs.len() as u32;
         let mut least = greedy;
         for test in 0..tests {
-            if splits(inst, group, test) {
-                least = lesser_of(self.up_sum(inst, group, test, weight), least);
-            }
+            let estimate = estimates.of_tests[test as usize];
+            least = self.lesser_up_sum(inst, group, weight, least, test, estimate);
         }
         least
     }
 
     /// The least to which the row at the place may be capped.
-    pub(crate) fn least_up(&self, inst: &Instance, place: u32) -> u64
+    pub(crate) fn least_up(&self, inst: &Instance, place: u32, estimates: &Estimates) -> u64
         requires of { IsTableOf (problem_of inst.now) self.now }
         requires there { place < length self.now.rows }
+        requires estimates { AreEstimatesAt (problem_of inst.now) self.now.rows place estimates.now }
         ensures { IsLeastUp (problem_of inst.now) self.now.rows place result }
     {
         let group = self.rows[place as usize].group;
         let kept = self.kept[place as usize];
-        self.least_up_sum(inst, &group, kept.weight, kept.greedy)
+        self.least_up_sum(inst, &group, kept.weight, kept.greedy, estimates)
     }
 
     /// Raises the low of the row at the place to a number, if it is lower.

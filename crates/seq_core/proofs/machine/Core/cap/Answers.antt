@@ -15,6 +15,9 @@ use Rattle.seq_core.specs.Changes.{change_row, capped}
 use Rattle.seq_core.proofs.CoreLaws.{core_from, core-table, sound-after}
 use Rattle.seq_core.proofs.machine.Core.cap.Goals as goal
 
+pub estimates-estimates-requires-clause-of : goal.estimates-estimates-requires-clause-of
+estimates-estimates-requires-clause-of c = core-table c.args.inst.now c.self.inside.entered c.self.inside.numbers (subst (IsCoreOf (problem_of c.args.inst.now)) (sym c.self.view_is) c.requires)
+
 pub least_up-allowed-requires-clause-of : goal.least_up-allowed-requires-clause-of
 least_up-allowed-requires-clause-of c = core-table c.args.inst.now c.self.inside.entered c.self.inside.numbers (subst (IsCoreOf (problem_of c.args.inst.now)) (sym c.self.view_is) c.requires)
 

@@ -15,6 +15,9 @@ use Rattle.seq_core.specs.Changes.{change_row, raised}
 use Rattle.seq_core.proofs.CoreLaws.{core_from, core-table, sound-after}
 use Rattle.seq_core.proofs.machine.Core.raise.Goals as goal
 
+pub estimates-estimates-requires-clause-of : goal.estimates-estimates-requires-clause-of
+estimates-estimates-requires-clause-of c = core-table c.args.inst.now c.self.inside.entered c.self.inside.numbers (subst (IsCoreOf (problem_of c.args.inst.now)) (sym c.self.view_is) c.requires.of)
+
 pub most_low-allowed-requires-clause-of : goal.most_low-allowed-requires-clause-of
 most_low-allowed-requires-clause-of c = core-table c.args.inst.now c.self.inside.entered c.self.inside.numbers (subst (IsCoreOf (problem_of c.args.inst.now)) (sym c.self.view_is) c.requires.of)
 

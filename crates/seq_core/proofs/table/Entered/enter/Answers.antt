@@ -1,6 +1,7 @@
 use Rattle.std.proofs.Common.{◌≡◌, ◌+◌, ◌∙◌, ◌<◌, ◌++◌, ◌∷◌, [], ap, sym, arith, subst, length, rules, length-append}
 use Rattle.seq_inst.specs.Members.{members}
 use Rattle.seq_inst.specs.Instances.{problem_of}
+use Rattle.seq_huff.proofs.BoundFits.{bound-small}
 use Rattle.seq_core.specs.Mapping.{Mapping, place_of}
 use Rattle.seq_core.specs.RowsOf.{rows_of, place_in, AreFit}
 use Rattle.seq_core.specs.Tables.{Table, IsTableOf, numbered, AreWorthsOf}
@@ -63,7 +64,8 @@ returns-clause-of c =
     let pushed : c.push.new.self.items ≡ rows ++ new_row g ∷ [] = search rules in
     let kept_pushed : c.push-2.new.self.items ≡ kept ++ c.of-kept.result ∷ [] = search rules in
     let of : IsTableOf p (record { room = c.self.inside.index.room; rows = rows; kept = kept }) = subst (IsTableOf p) (sym c.self.view_is) c.requires.of in
+    let small = bound-small c.args.inst.now g c.requires.within in
     record {
       kept = subst (λ l. AreWorthsOf p l c.push-2.new.self.items) (sym pushed) (subst (AreWorthsOf p (rows ++ new_row g ∷ [])) (sym kept_pushed) (kept-more p rows kept (new_row g) c.of-kept.result of.kept c.of-kept.ensures));
-      fit = subst (λ l. AreFit p (rows_of l)) (sym pushed) (fit-more p rows (new_row g) of.fit (record { within = c.requires.within; goals = c.requires.goals; small = omega arith }));
+      fit = subst (λ l. AreFit p (rows_of l)) (sym pushed) (fit-more p rows (new_row g) of.fit (record { within = c.requires.within; goals = c.requires.goals; small = omega arith; above = omega arith }));
     }

@@ -8,9 +8,10 @@ use Rattle.seq_inst.specs.declared.outcome.Row.{Row}
 use Rattle.seq_inst.specs.Members.{members}
 use Rattle.seq_inst.specs.Instances.{problem_of}
 use Rattle.seq_core.specs.declared.worth.Worth.{Worth}
+use Rattle.seq_core.specs.Choice.{AreEstimates}
 use Rattle.seq_core.specs.RowsOf.{rows_of}
 use Rattle.seq_core.specs.Tables.{Table}
-use Rattle.seq_core.proofs.TableLaws.{no_row, no_kept, read-at}
+use Rattle.seq_core.proofs.TableLaws.{no_row, no_kept, get-row, read-at}
 use Rattle.seq_core.proofs.SumLaws.{allowed-low}
 use Rattle.seq_core.proofs.table.Entered.most_low.Goals as goal
 
@@ -37,6 +38,15 @@ least_low_sum-least-requires-clause-weight c =
     let row : c.index.result.now ≡ get_or t.rows c.args.place no_row = get_or_read c.self.inside.rows.items c.args.place c.index.result.now rows_there c.index.ensures no_row ∙ ap (λ (t : Table). get_or t.rows c.args.place no_row) c.self.view_is in
     let keep : c.index-kept.result.now ≡ get_or t.kept c.args.place no_kept = get_or_read c.self.inside.kept.items c.args.place c.index-kept.result.now kept_there c.index-kept.ensures no_kept ∙ ap (λ (t : Table). get_or t.kept c.args.place no_kept) c.self.view_is in
     (read-at p t c.args.place c.index.result.now c.index-kept.result.now c.requires.of there row keep).kept.weight
+
+pub least_low_sum-least-requires-clause-estimates : goal.least_low_sum-least-requires-clause-estimates
+least_low_sum-least-requires-clause-estimates c =
+    let p = problem_of c.args.inst.now in
+    let t = c.args.self.now in
+    let there : c.args.place < length t.rows = c.requires.there in
+    let rows_there : c.args.place < length c.self.inside.rows.items = subst (λ (t : Table). c.args.place < length t.rows) (sym c.self.view_is) c.requires.there in
+    let row : c.index.result.now ≡ get_or t.rows c.args.place no_row = get_or_read c.self.inside.rows.items c.args.place c.index.result.now rows_there c.index.ensures no_row ∙ ap (λ (t : Table). get_or t.rows c.args.place no_row) c.self.view_is in
+    subst (λ (r : Row). AreEstimates p (members r.group) c.args.estimates.now) (sym row) (c.requires.estimates _ (get-row t.rows c.args.place there))
 
 pub returns : goal.returns
 returns c =
