@@ -42,8 +42,8 @@ impl Estimate {
     }
 
     /// A number that is at most the sum of the test over the bounds of its parts. The group is that of
-    /// `of`, and the test splits it. It costs one walk over the classes of the smaller part, and a dozen
-    /// steps more.
+    /// `of`, and the test splits it. It counts the classes of one part, walks over those of the smaller
+    /// part, and takes a few dozen steps more.
     pub fn least_sum(&self, order: &Order, inst: &Instance, group: &Group, test: u32) -> u64
         requires order { IsOrderOf (problem_of inst.now) order.now }
         requires within { IsWithin (problem_of inst.now) (members group.now) }

@@ -21,7 +21,8 @@ struct Fronts {
     sum: usize,
 }
 
-/// Takes the least number that is left. The sums stand in the places below `made`.
+/// Takes the least number that is left. The sums stand in the places below `made`. Which queue has it is a
+/// matter of chance, so no branch depends on that.
 #[inline(always)]
 fn take_least(numbers: &[u64], made: usize, fronts: &mut Fronts) -> u64
     requires made { made ≤ length numbers.now }
@@ -38,12 +39,14 @@ fn take_least(numbers: &[u64], made: usize, fronts: &mut Fronts) -> u64
         fronts.weight = weight + 1;
         return numbers[weight];
     }
-    if weight < numbers.len() && numbers[weight] <= numbers[sum] {
-        fronts.weight = weight + 1;
-        return numbers[weight];
+    if weight == numbers.len() {
+        fronts.sum = sum + 1;
+        return numbers[sum];
     }
-    fronts.sum = sum + 1;
-    numbers[sum]
+    let step = usize::from(numbers[weight] <= numbers[sum]);
+    fronts.weight = weight + step;
+    fronts.sum = sum + (1 - step);
+    numbers[weight].min(numbers[sum])
 }
 
 /// What merging the two least again and again costs, of numbers in upward order, which are given up.
