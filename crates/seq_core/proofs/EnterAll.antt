@@ -1,11 +1,10 @@
 -- Distinct groups entered one after another: none has a place when its turn comes.
-use Rattle.std.proofs.Common.{◌≡◌, ℕ, zero, suc, ◌<◌, ◌≤◌, List, [], ◌∷◌, ◌++◌, length, refl, sym, ap, ◌∙◌, arith, inl, inr, subst, None, take}
+use Rattle.std.proofs.Common.{◌≡◌, ℕ, zero, suc, ◌<◌, List, [], ◌∷◌, ◌++◌, length, refl, sym, ap, ◌∙◌, arith, inl, inr, subst, None, take}
 use Rattle.std.specs.Prelude.{true, false, map}
 use Rattle.std.specs.Option.{option_map}
 use Rattle.std.proofs.Math.Seq.{take-suc}
 use Rattle.std.proofs.lemmas.Bool.{cases_Bool, true≢false, or_parts}
-use Rattle.std.proofs.lemmas.List.{get_or-map, length-map, map-append}
-use Rattle.seq_theory.specs.Problem.{Problem, is_end}
+use Rattle.std.proofs.lemmas.List.{map-append}
 use Rattle.seq_theory.specs.Graph.{same_group, is_entered}
 use Rattle.seq_theory.specs.Rows.{groups_of, AreDistinct}
 use Rattle.seq_theory.specs.Rows.{Row as TheoryRow}
@@ -14,9 +13,7 @@ use Rattle.seq_inst.specs.declared.outcome.Row.{Row}
 use Rattle.seq_inst.specs.Members.{members}
 use Rattle.seq_core.specs.RowsOf.{rows_of, place_in}
 use Rattle.seq_core.specs.Changes.{new_row}
-use Rattle.seq_core.specs.Tables.{Table, IsTableOf}
-use Rattle.seq_core.specs.Settled.{groups_in, AreGroups, first_row, row_at, IsSettledTo}
-use Rattle.seq_core.proofs.TableLaws.{row-among}
+use Rattle.seq_core.specs.Settled.{groups_in, first_row, row_at}
 
 -- the rows of these groups, of which nothing is known
 abbrev pub fresh : List Row → List Row
@@ -57,20 +54,3 @@ fresh-next rows k lt = ap fresh (take-suc rows k first_row lt) ∙ map-append (�
 pub fresh-none : (rows : List Row) → fresh (take 0 rows) ≡ []
 fresh-none [] = refl
 fresh-none (r ∷ rest) = refl
-
--- a group of two goals has two classes
-two-classes : (p : Problem) (g : List ℕ) → is_end p g ≡ false → 2 ≤ length g
-two-classes p [] e = absurd (true≢false e)
-two-classes p (c ∷ []) e = absurd (true≢false e)
-two-classes p (c ∷ d ∷ rest) e = omega arith
-
-pub settled-none : (p : Problem) (rows : List Row) (t : Table) → AreGroups p rows → IsTableOf p t → t.rows ≡ fresh rows → IsSettledTo p rows t 2 0
-settled-none p rows t a of is = record {
-  of = of;
-  many = ap length is ∙ length-map rows (λ (r : Row). new_row r.group);
-  groups = ap groups_in is ∙ groups-fresh rows;
-  done = λ k lt turn. absurd (
-      let two = two-classes p (members (row_at rows k).group) (a.goals _ (row-among rows k lt)) in
-      elim turn [ inl less ↦ (let bad : ⊥ = omega arith in bad) | inr same ↦ (let b = same.1 in let bad : ⊥ = omega arith in bad) ]);
-  rest = λ k lt later. ap (λ l. row_at l k) is ∙ get_or-map (λ (r : Row). new_row r.group) rows k first_row first_row lt;
-}

@@ -1,5 +1,5 @@
 -- Rows that have the low and the value that the entered groups give them.
-use Rattle.std.specs.Prelude.{◌≡◌, ◌⊎◌, ℕ, ◌<◌, ◌≤◌, false, List, length, map, slice_index_or, Option, Some, None}
+use Rattle.std.specs.Prelude.{◌≡◌, ℕ, ◌<◌, ◌≤◌, false, List, length, map, slice_index, slice_index_or, Option, Some, None}
 use Rattle.seq_theory.specs.Problem.{Problem, IsWithin, is_end}
 use Rattle.seq_theory.specs.Graph.{low, val}
 use Rattle.seq_theory.specs.Rows.{no_value, groups_of, AreDistinct, IsRow}
@@ -8,7 +8,6 @@ use Rattle.seq_inst.specs.declared.outcome.Row.{Row}
 use Rattle.seq_inst.specs.Members.{members}
 use Rattle.seq_inst.specs.Valid.{no_class}
 use Rattle.seq_core.specs.RowsOf.{rows_of}
-use Rattle.seq_core.specs.Changes.{new_row}
 use Rattle.seq_core.specs.Tables.{Table, IsTableOf}
 
 -- the groups of the rows
@@ -43,11 +42,33 @@ row_at rows k = slice_index_or rows k first_row
 abbrev pub size_at : List Row → ℕ → ℕ
 size_at rows k = length (members (row_at rows k).group)
 
--- the table has a row for each of these rows: those of fewer classes than the size, and of the size those before the place,
--- are settled; of the others nothing is known
-pub record IsSettledTo (p : Problem) (rows : List Row) (t : Table) (size place : ℕ) : Type 0 where
+-- the sizes of the rows' groups
+abbrev pub sizes_of : List Row → List ℕ
+sizes_of rows = map (λ r. length (members r.group)) rows
+
+-- a row that may become the settled one: of the same group, with a low that is at most the group's low and an up that is at least
+-- its value. A row of which nothing is known is such a row, each row of a sound list is, and the settled row is
+pub record MaySettle (p : Problem) (entered : List (List ℕ)) (row now : Row) : Type 0 where
+  pub group : now.group ≡ row.group
+  pub below : now.low ≤ low p entered (members row.group)
+  pub above : value_or (val p entered (members row.group)) ≤ now.up
+
+-- rows of the groups of others, on the way to their lows and values: each may settle, and those that are done have settled
+pub record AreSettling (p : Problem) (rows now : List Row) (isDone : ℕ → Type 0) : Type 0 where
+  pub groups : AreGroups p rows
+  pub many : length now ≡ length rows
+  pub each : (k : ℕ) → k < length rows → MaySettle p (groups_in rows) (row_at rows k) (row_at now k)
+  pub done : (k : ℕ) → k < length rows → isDone k → row_at now k ≡ settled_row p (groups_in rows) (row_at rows k)
+
+-- the rows of fewer classes are done
+abbrev pub AreDoneBelow : List Row → (ℕ → Type 0) → ℕ → Type 0
+AreDoneBelow rows isDone size = (j : ℕ) → j < length rows → size_at rows j < size → isDone j
+
+-- the place is one of the first so many of an order
+abbrev pub IsAmongFirst : List ℕ → ℕ → ℕ → Type 0
+IsAmongFirst order n place = (s : ℕ) × (s < n) × (slice_index order s ≡ place)
+
+-- the table has a row for each of these rows, and those at the first so many places of an order are settled
+pub record IsSettledTo (p : Problem) (rows : List Row) (t : Table) (order : List ℕ) (n : ℕ) : Type 0 where
   pub of : IsTableOf p t
-  pub many : length t.rows ≡ length rows
-  pub groups : groups_in t.rows ≡ groups_in rows
-  pub done : (k : ℕ) → k < length rows → (size_at rows k < size) ⊎ ((size_at rows k ≡ size) × (k < place)) → row_at t.rows k ≡ settled_row p (groups_in rows) (row_at rows k)
-  pub rest : (k : ℕ) → k < length rows → (size < size_at rows k) ⊎ ((size_at rows k ≡ size) × (place ≤ k)) → row_at t.rows k ≡ new_row (row_at rows k).group
+  pub settling : AreSettling p rows t.rows (IsAmongFirst order n)

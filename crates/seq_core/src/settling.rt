@@ -1,15 +1,19 @@
-//! The best bounds that a set of entered groups gives. The rows are gone through by size: a group's parts
-//! have fewer classes than it has, so when its turn comes their bounds are final, and each group is
-//! looked at once. Raising a row to the most that the others allow then gives its low, and capping it to
+//! The best bounds that a set of entered groups gives. The rows are gone through by size, in an order that
+//! is made once: a group's parts have fewer classes than it has, so when its turn comes their bounds are
+//! final, and each group is looked at once. Raising a row to the most that the others allow then gives its low, and capping it to
 //! the least gives its value. `settle` takes bounds and greedy's costs from the numbers that a search
 //! hands in, and works out those that these don't have: the result is the same for any numbers. `lows` and
 //! `vals` stand alone, and work out all.
-ghost use Rattle.std.specs.Prelude.{◌≡◌, ◌+◌, ◌<◌, ◌≤◌, List, map, length, take, IfOk};
+ghost use Rattle.std.specs.Prelude.{◌≡◌, ◌<◌, ◌≤◌, List, map, length, take, slice_index, IfOk};
 ghost use Rattle.seq_theory.specs.Graph.{low, val};
 ghost use Rattle.seq_inst.specs.Members.{members};
 ghost use Rattle.seq_inst.specs.Instances.{problem_of};
+ghost use Rattle.seq_huff.specs.Orders.{IsUpwardBy};
 ghost use Rattle.seq_core.specs.Numbered.{AreNumbers};
-ghost use Rattle.seq_core.specs.Settled.{groups_in, value_or, AreGroups, settled_rows, size_at, IsSettledTo};
+ghost use Rattle.seq_core.specs.Tables.{IsTableOf};
+ghost use Rattle.seq_core.specs.Changes.{new_row};
+ghost use Rattle.seq_core.specs.Allowed.{tightened};
+ghost use Rattle.seq_core.specs.Settled.{groups_in, value_or, AreGroups, settled_rows, sizes_of};
 
 use crate::numbers::Numbers;
 use crate::table::Entered;
@@ -27,7 +31,8 @@ fn entered_from(
 ) -> Result<Entered, AllocError>
     requires numbers { AreNumbers (problem_of inst.now) numbers.now }
     requires groups { AreGroups (problem_of inst.now) rows.now }
-    ensures { IfOk result (λ t. IsSettledTo (problem_of inst.now) rows.now t 2 0) }
+    ensures of { IfOk result (λ t. IsTableOf (problem_of inst.now) t) }
+    ensures rows { IfOk result (λ t. t.rows ≡ map (λ r. new_row r.group) rows.now) }
 {
     let Ok(room) = u32::try_from(rows.len()) else {
         return Err(AllocError);
@@ -39,50 +44,38 @@ fn entered_from(
     Ok(table)
 }
 
-/// Gives the row at the place its low and its value, where those of all smaller groups are settled.
+/// The places of a list of sizes, by size upwards.
+fn smallest_first(alloc: Global, sizes: &[u32]) -> Result<Vec<u32>, AllocError>
+    ensures { IfOk result (λ v. IsUpwardBy (length sizes.now) (λ k. slice_index sizes.now k) v.items) }
+{
+    let Ok(count) = u32::try_from(sizes.len()) else {
+        return Err(AllocError);
+    };
+    let mut places = Vec::new(alloc);
+    for place in 0..count {
+        places.push(place)?;
+    }
+    places.sort_unstable_by_key(|&place| sizes.get(place as usize).copied().unwrap_or(0));
+    Ok(places)
+}
+
+/// Raises the row at the place to the most, and caps it to the least, that the rows allow.
 fn settle_row(
     scratch: &mut Scratch,
     inst: &Instance,
     numbers: &Numbers,
     table: &mut Entered,
-    rows: &[Row],
-    size: u32,
     place: u32,
 )
     requires numbers { AreNumbers (problem_of inst.now) numbers.now }
-    requires settled { IsSettledTo (problem_of inst.now) rows.now table.old size place }
-    requires there { place < length rows.now }
-    requires size { size_at rows.now place ≡ size }
-    ensures { IsSettledTo (problem_of inst.now) rows.now table.new size (place + 1) }
+    requires of { IsTableOf (problem_of inst.now) table.old }
+    requires there { place < length table.old.rows }
+    ensures { table.new ≡ record table.old { rows = tightened (problem_of inst.now) table.old.rows place } }
 {
-    let _ = rows;
-    let _ = size;
     let low = table.most_low(scratch, inst, numbers, place);
     let up = table.least_up(inst, place);
     table.raise(place, low);
     table.cap(place, up);
-}
-
-/// Settles the rows whose groups have so many classes.
-fn settle_size(
-    scratch: &mut Scratch,
-    inst: &Instance,
-    numbers: &Numbers,
-    table: &mut Entered,
-    rows: &[Row],
-    sizes: &[u32],
-    size: u32,
-)
-    requires numbers { AreNumbers (problem_of inst.now) numbers.now }
-    requires settled { IsSettledTo (problem_of inst.now) rows.now table.old size 0 }
-    requires sizes { sizes.now ≡ map (λ r. length (members r.group)) rows.now }
-    ensures { IsSettledTo (problem_of inst.now) rows.now table.new (size + 1) 0 }
-{
-    for place in 0..table.len() {
-        if sizes[place as usize] == size {
-            settle_row(scratch, inst, numbers, table, rows, size, place);
-        }
-    }
 }
 
 /// A table of the rows' groups with their lows and values.
@@ -99,16 +92,9 @@ fn settled_table(
 {
     let mut table = entered_from(alloc, scratch, inst, numbers, rows)?;
     let sizes = sizes_in(alloc, rows)?;
-    for size in 2..513 {
-        settle_size(
-            scratch,
-            inst,
-            numbers,
-            &mut table,
-            rows,
-            sizes.as_slice(),
-            size,
-        );
+    let order = smallest_first(alloc, sizes.as_slice())?;
+    for turn in 0..order.len() {
+        settle_row(scratch, inst, numbers, &mut table, order[turn]);
     }
     Ok(table)
 }
@@ -146,7 +132,7 @@ fn ups_in(alloc: Global, rows: &[Row]) -> Result<Vec<u64>, AllocError>
 
 /// How many classes the group of each row has.
 fn sizes_in(alloc: Global, rows: &[Row]) -> Result<Vec<u32>, AllocError>
-    ensures { IfOk result (λ v. v.items ≡ map (λ r. length (members r.group)) rows.now) }
+    ensures { IfOk result (λ v. v.items ≡ sizes_of rows.now) }
 {
     rows.iter().map(|row| count_of(&row.group)).collect(alloc)
 }

@@ -1,11 +1,10 @@
 use Rattle.std.proofs.Common.{◌≡◌, ◌<◌, ◌∙◌, ap, arith, length, take}
 use Rattle.std.proofs.Math.Seq.{take-length}
 use Rattle.seq_inst.specs.Members.{members}
-use Rattle.seq_inst.specs.Instances.{problem_of}
 use Rattle.seq_core.specs.RowsOf.{rows_of, place_in}
 use Rattle.seq_core.specs.Settled.{row_at}
 use Rattle.seq_core.proofs.TableLaws.{row-among}
-use Rattle.seq_core.proofs.EnterAll.{fresh, absent-next, settled-none}
+use Rattle.seq_core.proofs.EnterAll.{fresh, absent-next}
 use Rattle.seq_core.proofs.settling.entered_from.Goals as goal
 
 pub enter-requires-clause-absent : goal.enter-requires-clause-absent
@@ -25,9 +24,8 @@ enter-requires-clause-goals c =
     let lt : c.loop-row.row-index < length c.args.rows.now = omega arith in
     c.requires.groups.goals _ (row-among c.args.rows.now c.loop-row.row-index lt)
 
-pub returns : goal.returns
-returns c =
+pub returns-clause-rows : goal.returns-clause-rows
+returns-clause-rows c =
     let rows = c.args.rows.now in
     let e : c.loop-row.row-index ≡ length rows = omega arith in
-    settled-none (problem_of c.args.inst.now) rows c.loop-row.table c.requires.groups c.loop-row.invariant.of
-    (c.loop-row.invariant.rows ∙ ap (λ n. fresh (take n rows)) e ∙ ap fresh (take-length rows))
+    c.loop-row.invariant.rows ∙ ap (λ n. fresh (take n rows)) e ∙ ap fresh (take-length rows)

@@ -1,11 +1,44 @@
-use Rattle.std.proofs.Common.{◌≡◌, arith, subst}
+use Rattle.std.proofs.Common.{◌≡◌, ◌<◌, ◌+◌, ◌∙◌, sym, ap, arith, subst, length, slice_index}
+use Rattle.std.proofs.lemmas.List.{get_or_read}
 use Rattle.seq_inst.specs.Instances.{problem_of}
+use Rattle.seq_huff.proofs.CountedLaws.{counted-length, counted-below}
+use Rattle.seq_core.specs.Tables.{Table}
+use Rattle.seq_core.specs.Allowed.{tightened}
 use Rattle.seq_core.specs.Settled.{IsSettledTo}
-use Rattle.seq_core.proofs.SettleSteps.{settled-all}
+use Rattle.seq_core.proofs.SettleSteps.{order-of, settled-none, settled-next, settled-end}
 use Rattle.seq_core.proofs.settling.settled_table.Goals as goal
+
+pub loop-turn-init : goal.loop-turn-init
+loop-turn-init c = settled-none c.args.inst.now c.args.rows.now c.in_ok-table.table c.in_ok-order.order.items c.requires.groups c.in_ok-table.ensures.of c.in_ok-table.ensures.rows
+
+pub settle_row-requires-clause-there : goal.settle_row-requires-clause-there
+settle_row-requires-clause-there c =
+    let rows = c.args.rows.now in
+    let by = order-of rows _ c.in_ok-order.order.items (c.as_slice.ensures.value ∙ c.in_ok-sizes.ensures) c.in_ok-order.ensures in
+    let many = counted-length (length rows) c.in_ok-order.order.items by.each_once in
+    let long = c.loop-turn.invariant.settling.many in
+    let at = get_or_read c.in_ok-order.order.items c.loop-turn.turn c.index.result.now (omega arith) c.index.ensures 0 in
+    let below = counted-below (length rows) c.in_ok-order.order.items by.each_once c.loop-turn.turn (omega arith) in
+    omega arith
+
+pub loop-turn-preserved : goal.loop-turn-preserved
+loop-turn-preserved c =
+    let inst = c.args.inst.now in
+    let p = problem_of inst in
+    let rows = c.args.rows.now in
+    let order = c.in_ok-order.order.items in
+    let t = c.loop-turn.table in
+    let turn = c.loop-turn.turn in
+    let by = order-of rows _ order (c.as_slice.ensures.value ∙ c.in_ok-sizes.ensures) c.in_ok-order.ensures in
+    let many = counted-length (length rows) order by.each_once in
+    let lt : turn < length order = omega arith in
+    let at : c.index.result.now ≡ slice_index order turn = get_or_read order turn c.index.result.now lt c.index.ensures 0 in
+    subst (λ (x : Table). IsSettledTo p rows x order (turn + 1)) (sym (c.settle_row.ensures ∙ ap (λ k. record { room = t.room; rows = tightened p t.rows k; kept = t.kept }) at))
+    (settled-next inst rows t order turn by lt c.loop-turn.invariant)
 
 pub returns : goal.returns
 returns c =
-    let p = problem_of c.args.inst.now in
-    let e : c.loop-size.size ≡ 513 = omega arith in
-    settled-all p c.args.rows.now c.loop-size.table (subst (λ n. IsSettledTo p c.args.rows.now c.loop-size.table n 0) e c.loop-size.invariant)
+    let rows = c.args.rows.now in
+    let order = c.in_ok-order.order.items in
+    let by = order-of rows _ order (c.as_slice.ensures.value ∙ c.in_ok-sizes.ensures) c.in_ok-order.ensures in
+    settled-end (problem_of c.args.inst.now) rows c.loop-turn.table order c.loop-turn.turn by (omega arith) c.loop-turn.invariant
