@@ -35,6 +35,12 @@ module _ (p : Problem) (v : Numbered) (rows : List Row) (r : Row) (k : Kept) (sp
         (subst (λ l. IsIn (get_or l i d).test (splitting p (members r.group))) (sym are) (kept.tests.splits_are i d (let l = ap length are in omega arith)));
   }
 
+-- something is kept at each place
+pub kept-there : (kept : List Kept) (place : ℕ) → place < length kept → (k : Kept) × (slice_get kept place ≡ Some k)
+kept-there [] place lt = absurd (let bad : ⊥ = omega arith in bad)
+kept-there (k ∷ rest) zero lt = (k, refl)
+kept-there (k ∷ rest) (suc place) lt = kept-there rest place (omega arith)
+
 -- what is read of a kept group
 pub splits-read : (kept : List Kept) (place : ℕ) (k : Kept) → place < length kept → k ≡ get_or kept place k → splits_at kept place ≡ k.splits.items
 splits-read kept place k lt read = ap splits_in (slice_get_read kept (length kept) place k refl lt read)
@@ -46,6 +52,9 @@ get-set : (kept : List Kept) (place : ℕ) (k : Kept) → place < length kept �
 get-set [] place k lt = absurd (let bad : ⊥ = omega arith in bad)
 get-set (x ∷ rest) zero k lt = refl
 get-set (x ∷ rest) (suc place) k lt = get-set rest place k (omega arith)
+
+pub splits-set : (kept : List Kept) (place : ℕ) (k : Kept) → place < length kept → splits_at (set kept place k) place ≡ k.splits.items
+splits-set kept place k lt = ap splits_in (get-set kept place k lt)
 
 pub waiting-set : (kept : List Kept) (place : ℕ) (k : Kept) → place < length kept → waiting_at (set kept place k) place ≡ k.waiting.items
 waiting-set kept place k lt = ap waiting_in (get-set kept place k lt)
