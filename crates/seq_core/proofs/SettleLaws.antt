@@ -29,7 +29,7 @@ use Rattle.seq_core.specs.Settled.{groups_in, value_or, AreGroups, settled_row, 
 use Rattle.seq_core.proofs.TableLaws.{place-found, place-absent, row-among, found-entered}
 use Rattle.seq_core.proofs.EventLaws.{sound_are_groups}
 
-same-groups : (xs ys : List Row) → length xs ≡ length ys → ((k : ℕ) → k < length ys → (row_at xs k).group ≡ (row_at ys k).group) → groups_in xs ≡ groups_in ys
+pub same-groups : (xs ys : List Row) → length xs ≡ length ys → ((k : ℕ) → k < length ys → (row_at xs k).group ≡ (row_at ys k).group) → groups_in xs ≡ groups_in ys
 same-groups [] [] e h = refl
 same-groups [] (y ∷ ys) e h = absurd (let bad : ⊥ = omega arith in bad)
 same-groups (x ∷ xs) [] e h = absurd (let bad : ⊥ = omega arith in bad)

@@ -1,9 +1,9 @@
 -- One row settled after another, by size: each smaller group had its turn, so the row whose turn it is gets its low and its
 -- value, and the others stay as they were.
-use Rattle.std.proofs.Common.{◌≡◌, ◌≢◌, ℕ, zero, suc, ◌+◌, ◌<◌, ◌≤◌, max, min, List, [], ◌∷◌, length, refl, sym, ap, ◌∙◌, arith, inl, inr, subst}
+use Rattle.std.proofs.Common.{◌≡◌, ◌≢◌, ◌⊎◌, ℕ, zero, suc, ◌+◌, ◌<◌, ◌≤◌, max, min, List, [], ◌∷◌, length, refl, sym, ap, ◌∙◌, arith, inl, inr, subst}
 use Rattle.std.specs.Prelude.{map, slice_index}
 use Rattle.std.proofs.lemmas.Bool.{cases_lt}
-use Rattle.std.proofs.lemmas.List.{get_or-map, length-map}
+use Rattle.std.proofs.lemmas.List.{get_or-map}
 use Rattle.seq_theory.specs.Problem.{Problem, IsWithin}
 use Rattle.seq_theory.specs.Bound.{bound}
 use Rattle.seq_theory.specs.Graph.{low, val}
@@ -86,16 +86,11 @@ bound-le-value inst rows k groups there =
 abbrev pub HasOrder : List Row → List ℕ → Type 0
 HasOrder rows order = IsUpwardBy (length rows) (λ k. slice_index (sizes_of rows) k) order
 
-pub order-of : (rows : List Row) (sizes order : List ℕ) → sizes ≡ sizes_of rows → IsUpwardBy (length sizes) (λ k. slice_index sizes k) order → HasOrder rows order
-order-of rows sizes order is by =
-    let long = ap length is ∙ length-map rows (λ (r : Row). length (members r.group)) in
-    subst (λ n. IsUpwardBy n (λ k. slice_index (sizes_of rows) k) order) long (subst (λ l. IsUpwardBy (length sizes) (λ k. slice_index l k) order) is by)
-
 size-read : (rows : List Row) (k : ℕ) → k < length rows → slice_index (sizes_of rows) k ≡ size_at rows k
 size-read rows k lt = get_or-map (λ (r : Row). length (members r.group)) rows k first_row 0 lt
 
 -- what is smaller than the group whose turn it is had its turn
-turns-below : (rows : List Row) (order : List ℕ) (n : ℕ) → HasOrder rows order → n < length order → AreDoneBelow rows (IsAmongFirst order n) (size_at rows (slice_index order n))
+pub turns-below : (rows : List Row) (order : List ℕ) (n : ℕ) → HasOrder rows order → n < length order → AreDoneBelow rows (IsAmongFirst order n) (size_at rows (slice_index order n))
 turns-below rows order n by lt j there less =
     let many = counted-length (length rows) order by.each_once in
     let at = counted-there (length rows) order by.each_once j there in
@@ -110,6 +105,21 @@ turns-below rows order n by lt j there less =
           let c = ap (slice_index (sizes_of rows)) at.2 in
           let bad : ⊥ = omega arith in bad)
     ]
+
+-- after one more turn
+pub turns-next : (order : List ℕ) (n j : ℕ) → IsAmongFirst order (n + 1) j → IsAmongFirst order n j ⊎ (j ≡ slice_index order n)
+turns-next order n j d = elim (cases_lt d.0 n) [
+  | inl before ↦ inl (d.0, before, d.2)
+  | inr after ↦ (let l = d.1 in let e : d.0 ≡ n = omega arith in inr (sym d.2 ∙ ap (slice_index order) e))
+]
+
+-- at the end all had theirs
+pub turns-all : (rows : List Row) (order : List ℕ) (n : ℕ) → HasOrder rows order → n ≡ length order → (k : ℕ) → k < length rows → IsAmongFirst order n k
+turns-all rows order n by e k lt =
+    let many = counted-length (length rows) order by.each_once in
+    let at = counted-there (length rows) order by.each_once k lt in
+    let l = at.1 in
+    (at.0, omega arith, at.2)
 
 pub settled-next : (inst : Instance) (rows : List Row) (t : Table) (order : List ℕ) (n : ℕ) → HasOrder rows order → n < length order → IsSettledTo (problem_of inst) rows t order n
     → IsSettledTo (problem_of inst) rows (record { room = t.room; rows = tightened (problem_of inst) t.rows (slice_index order n); kept = t.kept }) order (n + 1)
@@ -146,10 +156,7 @@ settled-next inst rows t order n by lt s =
       settling = settled-more p rows t.rows (tightened p t.rows k) (IsAmongFirst order n) (IsAmongFirst order (n + 1)) k s.settling (length-change t.rows k (tight_row p t.rows))
           (change-same t.rows k (tight_row p t.rows) lt_now ∙ settled)
           (λ j ne. change-other t.rows k j (tight_row p t.rows) ne)
-          (λ j d. elim (cases_lt d.0 n) [
-            | inl before ↦ inl (d.0, before, d.2)
-            | inr after ↦ (let l = d.1 in let e : d.0 ≡ n = omega arith in inr (sym d.2 ∙ ap (slice_index order) e))
-          ]);
+          (turns-next order n);
     }
 
 pub settled-none : (inst : Instance) (rows : List Row) (t : Table) (order : List ℕ) → AreGroups (problem_of inst) rows → IsTableOf (problem_of inst) t → t.rows ≡ map (λ r. new_row r.group) rows → IsSettledTo (problem_of inst) rows t order 0
@@ -166,11 +173,7 @@ settled-none inst rows t order groups of is =
     }
 
 pub settled-end : (p : Problem) (rows : List Row) (t : Table) (order : List ℕ) (n : ℕ) → HasOrder rows order → n ≡ length order → IsSettledTo p rows t order n → t.rows ≡ settled_rows p rows
-settled-end p rows t order n by e s = settled-all p rows t.rows (IsAmongFirst order n) s.settling (λ k lt.
-    let many = counted-length (length rows) order by.each_once in
-    let at = counted-there (length rows) order by.each_once k lt in
-    let l = at.1 in
-    (at.0, omega arith, at.2))
+settled-end p rows t order n by e s = settled-all p rows t.rows (IsAmongFirst order n) s.settling (turns-all rows order n by e)
 
 -- the lows and the ups of settled rows
 lows-of : (p : Problem) (entered : List (List ℕ)) (rows : List Row) → map (λ (r : Row). r.low) (map (settled_row p entered) rows) ≡ map (low p entered) (groups_in rows)

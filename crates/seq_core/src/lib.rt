@@ -30,4 +30,4 @@ pub use laws::{changes_keep, entering_helps, sound_rows_settle};
 pub use machine::Core;
 pub use numbers::Numbers;
 pub use places::Places;
-pub use settling::{lows, settle, vals};
+pub use settling::{lows, settle, smallest_first, vals};

@@ -45,7 +45,7 @@ fn entered_from(
 }
 
 /// The places of a list of sizes, by size upwards.
-fn smallest_first(alloc: Global, sizes: &[u32]) -> Result<Vec<u32>, AllocError>
+fn by_size(alloc: Global, sizes: &[u32]) -> Result<Vec<u32>, AllocError>
     ensures { IfOk result (λ v. IsUpwardBy (length sizes.now) (λ k. slice_index sizes.now k) v.items) }
 {
     let Ok(count) = u32::try_from(sizes.len()) else {
@@ -57,6 +57,14 @@ fn smallest_first(alloc: Global, sizes: &[u32]) -> Result<Vec<u32>, AllocError>
     }
     places.sort_unstable_by_key(|&place| sizes.get(place as usize).copied().unwrap_or(0));
     Ok(places)
+}
+
+/// The places of the rows, from those of the smallest groups on: the order in which rows are settled.
+pub fn smallest_first(alloc: Global, rows: &[Row]) -> Result<Vec<u32>, AllocError>
+    ensures { IfOk result (λ v. IsUpwardBy (length rows.now) (λ k. slice_index (sizes_of rows.now) k) v.items) }
+{
+    let sizes = sizes_in(alloc, rows)?;
+    by_size(alloc, sizes.as_slice())
 }
 
 /// Raises the row at the place to the most, and caps it to the least, that the rows allow.
@@ -92,8 +100,7 @@ fn settled_table(
     ensures { IfOk result (λ t. t.rows ≡ settled_rows (problem_of inst.now) rows.now) }
 {
     let mut table = entered_from(alloc, scratch, inst, numbers, rows)?;
-    let sizes = sizes_in(alloc, rows)?;
-    let order = smallest_first(alloc, sizes.as_slice())?;
+    let order = smallest_first(alloc, rows)?;
     for turn in 0..order.len() {
         settle_row(scratch, inst, numbers, &mut table, order[turn]);
     }

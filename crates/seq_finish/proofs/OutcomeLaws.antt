@@ -7,7 +7,7 @@ use Rattle.std.proofs.lemmas.List.Elements.{All-map}
 use Rattle.seq_theory.specs.Problem.{Problem, IsWithin, all_classes, is_end}
 use Rattle.seq_theory.specs.Tree.{Tree, AsksOnly, tree_cost, Solves}
 use Rattle.seq_theory.specs.Graph.{same_group, is_entered, low, val, strat, IsReal}
-use Rattle.seq_theory.specs.Rows.{IsRow, AreDistinct, IsSound}
+use Rattle.seq_theory.specs.Rows.{Row as PlainRow, IsRow, AreDistinct, IsSound}
 use Rattle.seq_theory.proofs.LeastLaws.{count_up-IsIn}
 use Rattle.seq_theory.proofs.PublicLaws.{entered_holds}
 use Rattle.seq_theory.proofs.RowLaws.{same_group-refl, or-left, or-right, wanted-within}
@@ -101,6 +101,51 @@ module _ (p : Problem) where
   length-settled : (other : List (List ℕ)) (rows : List Row) → length (map (settled_row p other) rows) ≡ length rows
   length-settled other [] = refl
   length-settled other (r ∷ rest) = ap suc (length-settled other rest)
+
+  settled-twice : (other : List (List ℕ)) (rows : List Row) → map (settled_row p other) (map (settled_row p other) rows) ≡ map (settled_row p other) rows
+  settled-twice other [] = refl
+  settled-twice other (r ∷ rest) = ap (λ l. settled_row p other r ∷ l) (settled-twice other rest)
+
+  -- settling settled rows changes nothing
+  pub settled-again : (rows : List Row) → settled_rows p rows ≡ settled_rows p (settled_rows p rows)
+  settled-again rows = sym (ap (λ g. map (settled_row p g) (settled_rows p rows)) (settled-entered rows) ∙ settled-twice (groups_in rows) rows)
+
+  -- a settled row is that of one of the groups, with its low and its value
+  record IsSettledOf (other : List (List ℕ)) (rows : List Row) (r : PlainRow) : Type 0 where
+    from : PlainRow
+    among : IsRow from (rows_from rows)
+    group_is : from.group ≡ r.group
+    low_is : r.low ≡ low p other from.group
+    up_is : r.up ≡ value_or (val p other from.group)
+
+  settled-from : (other : List (List ℕ)) (rows : List Row) (r : PlainRow) → IsRow r (rows_from (map (settled_row p other) rows)) → IsSettledOf other rows r
+  settled-from other [] r i = absurd i
+  settled-from other (x ∷ rest) r (inl e) = record {
+    from = row_from x;
+    among = inl refl;
+    group_is = ap (λ (y : PlainRow). y.group) e;
+    low_is = sym (ap (λ (y : PlainRow). y.low) e);
+    up_is = sym (ap (λ (y : PlainRow). y.up) e);
+  }
+  settled-from other (x ∷ rest) r (inr i) =
+      let h = settled-from other rest r i in
+      record { from = h.from; among = inr h.among; group_is = h.group_is; low_is = h.low_is; up_is = h.up_is }
+
+  -- settled rows are sound
+  pub settled-sound : (limit : ℕ) (rows : List Row) → IsSound p limit (rows_from rows) → IsSound p limit (rows_from (settled_rows p rows))
+  settled-sound limit rows s = record {
+    few = (let f = s.few in let l = length-rows rows in let m = length-settled (groups_in rows) rows in let k = length-rows (settled_rows p rows) in omega arith);
+    distinct = subst AreDistinct (sym (settled-entered rows)) s.distinct;
+    real = λ r i. (let h = settled-from (groups_in rows) rows r i in subst (IsReal p) h.group_is (s.real h.from h.among));
+    lows = λ r i.
+        let h = settled-from (groups_in rows) rows r i in
+        let e = h.low_is ∙ ap (low p (groups_in rows)) h.group_is ∙ ap (λ g. low p g r.group) (sym (settled-entered rows)) in
+        omega arith;
+    ups = λ r i v is.
+        let h = settled-from (groups_in rows) rows r i in
+        let e : r.up ≡ v = h.up_is ∙ ap (λ g. value_or (val p (groups_in rows) g)) h.group_is ∙ ap value_or (ap (λ g. val p g r.group) (sym (settled-entered rows)) ∙ is) in
+        omega arith;
+  }
 
   or-some : (o : Option ℕ) (v : ℕ) → o ≡ Some v → o ≡ Some (value_or o)
   or-some o v e = rw e refl

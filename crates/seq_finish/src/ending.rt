@@ -65,12 +65,15 @@ pub fn finish(
     ensures short { IfOk result (λ o. height (tree_of o.strategy) ≤ 512) }
 {
     let numbers = Numbers::new(alloc, inst)?;
-    finish_by(alloc, inst, numbers, limit, rows, missed)
+    let mut scratch = Scratch::new();
+    let rows = settle(alloc, &mut scratch, inst, &numbers, rows.as_slice())?;
+    finish_settled(alloc, inst, numbers, limit, rows, missed)
 }
 
-/// The same outcome, for a search that has numbers: bounds, and greedy's costs and tests, that it has
-/// worked out are taken from them, and only others are worked out here.
-pub fn finish_by(
+/// The outcome of a search that has settled its rows itself: each has the low and the value that the
+/// entered groups give it. Greedy's costs and tests that the search has worked out are taken from its
+/// numbers, and only others are worked out here.
+pub fn finish_settled(
     alloc: Global,
     inst: &Instance,
     mut numbers: Numbers,
@@ -82,8 +85,9 @@ pub fn finish_by(
     requires sound { IsSound (problem_of inst.now) limit (rows_from rows.items) }
     requires root { is_end (problem_of inst.now) (all_classes (problem_of inst.now)) ≡ false → is_entered (groups_in rows.items) (all_classes (problem_of inst.now)) ≡ true }
     requires stopped { MayStop (problem_of inst.now) limit (groups_in rows.items) missed }
+    requires settled { rows.items ≡ settled_rows (problem_of inst.now) rows.items }
     ensures right { IfOk result (IsRightOutcome (problem_of inst.now) limit) }
-    ensures rows { IfOk result (λ o. o.rows.items ≡ settled_rows (problem_of inst.now) rows.items) }
+    ensures rows { IfOk result (λ o. o.rows.items ≡ rows.items) }
     ensures missed { IfOk result (λ o. o.verdict ≡ Verdict.Bounded → o.missed ≡ missed) }
     ensures proper { IfOk result (λ o. o.low ≤ o.cost) }
     ensures there { IfOk result (λ o. AsksOnly (problem_of inst.now).tests (tree_of o.strategy)) }
@@ -92,7 +96,6 @@ pub fn finish_by(
     ensures short { IfOk result (λ o. height (tree_of o.strategy) ≤ 512) }
 {
     let mut scratch = Scratch::new();
-    let rows = settle(alloc, &mut scratch, inst, &numbers, rows.as_slice())?;
     let places = index_of(alloc, rows.as_slice())?;
     let all = root(inst);
     let strategy = strategy_of(

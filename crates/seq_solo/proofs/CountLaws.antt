@@ -97,6 +97,22 @@ up-small p rows known g u e = elim (cases_Bool (is_end p g)) [
     small-row (x ∷ rest) all r (inl s) = subst (λ (y : PlainRow). (y.up ≡ no_value) ⊎ (y.up ≤ greatest_cost)) s (all 0 no_row (omega arith))
     small-row (x ∷ rest) all r (inr i) = small-row rest (λ k d lt. all (suc k) d (omega arith)) r i
 
+module _ (p : Problem) (v : Numbered) (rows : List Row) (kept : List Kept) (counts : List Count) (known : AreKnown p v rows kept counts) where
+  pub up-none : (g : List ℕ) (n : ℕ) (a : Count) → HasNumber v g n → a ≡ get_or counts n a → a.up ≡ no_value → known_up p (rows_from rows) g ≡ None
+  up-none g n a has read e = go (known_up p (rows_from rows) g) refl
+    where
+      up_is : a.up ≡ value_or (known_up p (rows_from rows) g)
+      up_is = ap (λ (x : Count). x.up) (count-read p v rows kept counts known g n a has read)
+
+      go : (o : Option ℕ) → known_up p (rows_from rows) g ≡ o → known_up p (rows_from rows) g ≡ None
+      go None is = is
+      go (Some u) is = absurd (
+          let b : u ≤ greatest_cost = up-small p rows known.rows_are g u is in
+          let c : a.up ≡ u = up_is ∙ ap value_or is in
+          let bad : ⊥ = omega arith in
+          bad
+          )
+
 module _ (inst : Instance) (v : Numbered) (rows : List Row) (kept : List Kept) (counts : List Count) (known : AreKnown (problem_of inst) v rows kept counts) (place : ℕ) (lt : place < length rows) where
   group-light : IsLight (problem_of inst) (members (group_at rows place))
   group-light = light-group inst (group_at rows place) (row-within (problem_of inst) rows known.rows_are place lt)
@@ -141,34 +157,19 @@ module _ (inst : Instance) (v : Numbered) (rows : List Row) (kept : List Kept) (
 
   -- ---- sums over ups ----
 
-  up-none : (g : List ℕ) (n : ℕ) (a : Count) → HasNumber v g n → a ≡ get_or counts n a → a.up ≡ no_value → known_up (problem_of inst) (rows_from rows) g ≡ None
-  up-none g n a has read e = go (known_up (problem_of inst) (rows_from rows) g) refl
-    where
-      up_is : a.up ≡ value_or (known_up (problem_of inst) (rows_from rows) g)
-      up_is = ap (λ (x : Count). x.up) (count-read (problem_of inst) v rows kept counts known g n a has read)
-
-      go : (o : Option ℕ) → known_up (problem_of inst) (rows_from rows) g ≡ o → known_up (problem_of inst) (rows_from rows) g ≡ None
-      go None is = is
-      go (Some u) is = absurd (
-          let b : u ≤ greatest_cost = up-small (problem_of inst) rows known.rows_are g u is in
-          let c : a.up ≡ u = up_is ∙ ap value_or is in
-          let bad : ⊥ = omega arith in
-          bad
-          )
-
   pub up-sum-none-pass : (s : Split) (a : Count) → HasParts (problem_of inst) v (members (group_at rows place)) s → a ≡ get_or counts s.pass a → a.up ≡ no_value
       → None ≡ step_value (problem_of inst) (known_up (problem_of inst) (rows_from rows)) (members (group_at rows place)) s.test
   up-sum-none-pass s a parts ar e =
       let p = problem_of inst in
       let g = members (group_at rows place) in
-      sym (ap (λ o. sum_with (p.cost s.test * weight_of p g) o (known_up p (rows_from rows) (fail_part p s.test g))) (up-none (pass_part p s.test g) s.pass a parts.passing ar e))
+      sym (ap (λ o. sum_with (p.cost s.test * weight_of p g) o (known_up p (rows_from rows) (fail_part p s.test g))) (up-none p v rows kept counts known (pass_part p s.test g) s.pass a parts.passing ar e))
 
   pub up-sum-none-fail : (s : Split) (b : Count) → HasParts (problem_of inst) v (members (group_at rows place)) s → b ≡ get_or counts s.fail b → b.up ≡ no_value
       → None ≡ step_value (problem_of inst) (known_up (problem_of inst) (rows_from rows)) (members (group_at rows place)) s.test
   up-sum-none-fail s b parts br e =
       let p = problem_of inst in
       let g = members (group_at rows place) in
-      sym (ap (λ o. sum_with (p.cost s.test * weight_of p g) (known_up p (rows_from rows) (pass_part p s.test g)) o) (up-none (fail_part p s.test g) s.fail b parts.failing br e) ∙ none-right (p.cost s.test * weight_of p g) (known_up p (rows_from rows) (pass_part p s.test g)))
+      sym (ap (λ o. sum_with (p.cost s.test * weight_of p g) (known_up p (rows_from rows) (pass_part p s.test g)) o) (up-none p v rows kept counts known (fail_part p s.test g) s.fail b parts.failing br e) ∙ none-right (p.cost s.test * weight_of p g) (known_up p (rows_from rows) (pass_part p s.test g)))
     where
       none-right : (n : ℕ) (o : Option ℕ) → sum_with n o None ≡ None
       none-right n None = refl

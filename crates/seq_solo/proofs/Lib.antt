@@ -10,6 +10,8 @@ pub mod CapLaws
 pub mod WaitingLaws
 pub mod EventLaws
 pub mod TightenLaws
+pub mod LookLaws
+pub mod SettleLaws
 pub mod OpenLaws
 pub mod StepLaws
 pub mod FoundLaws

@@ -15,7 +15,7 @@ same-some a b e = cc
 pub number-group : (groups : List (List ℕ)) (n : ℕ) (g h : List ℕ) → slice_get groups n ≡ Some g → slice_get groups n ≡ Some h → g ≡ h
 number-group groups n g h eg eh = same-some g h (sym eg ∙ eh)
 
-number-entered : (groups : List (List ℕ)) (n : ℕ) (g : List ℕ) → slice_get groups n ≡ Some g → is_entered groups g ≡ true
+pub number-entered : (groups : List (List ℕ)) (n : ℕ) (g : List ℕ) → slice_get groups n ≡ Some g → is_entered groups g ≡ true
 number-entered [] n g e = absurd (let bad : ⊥ = cc in bad)
 number-entered (h ∷ rest) zero g e = let s = same-some h g e in or-left (same_group g h) (is_entered rest g) (subst (λ x. same_group g x ≡ true) (sym s) (same_group-refl g))
 number-entered (h ∷ rest) (suc n) g e = or-right (same_group g h) (is_entered rest g) (number-entered rest n g e)

@@ -51,6 +51,12 @@ last-split p v rows kept are place before s e = go (slice_get kept place) refl e
           there = splitting-there p g s.test (All-contains (λ (x : Split). IsIn x.test (splitting p g)) k.splits.items s of.tests.splits_are last);
         }
 
+-- something is kept at each place
+pub kept-there : (kept : List Kept) (place : ℕ) → place < length kept → (k : Kept) × (slice_get kept place ≡ Some k)
+kept-there [] place lt = absurd (let bad : ⊥ = omega arith in bad)
+kept-there (k ∷ rest) zero lt = (k, refl)
+kept-there (k ∷ rest) (suc place) lt = kept-there rest place (omega arith)
+
 -- what is read of a kept group
 pub splits-read : (kept : List Kept) (place : ℕ) (k : Kept) → place < length kept → k ≡ get_or kept place k → splits_at kept place ≡ k.splits.items
 splits-read kept place k lt read = ap splits_in (slice_get_read kept (length kept) place k refl lt read)
@@ -62,6 +68,9 @@ get-set : (kept : List Kept) (place : ℕ) (k : Kept) → place < length kept �
 get-set [] place k lt = absurd (let bad : ⊥ = omega arith in bad)
 get-set (x ∷ rest) zero k lt = refl
 get-set (x ∷ rest) (suc place) k lt = get-set rest place k (omega arith)
+
+pub splits-set : (kept : List Kept) (place : ℕ) (k : Kept) → place < length kept → splits_at (set kept place k) place ≡ k.splits.items
+splits-set kept place k lt = ap splits_in (get-set kept place k lt)
 
 pub waiting-set : (kept : List Kept) (place : ℕ) (k : Kept) → place < length kept → waiting_at (set kept place k) place ≡ k.waiting.items
 waiting-set kept place k lt = ap waiting_in (get-set kept place k lt)

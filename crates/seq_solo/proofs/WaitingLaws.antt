@@ -1,5 +1,6 @@
 -- The loop over the tests that wait: the place of the least number so far. And what it tells at the end.
-use Rattle.std.proofs.Common.{◌≡◌, ℕ, ◌+◌, ◌<◌, ◌≤◌, List, [], ◌∷◌, length, get_or, refl, sym, ◌∙◌, arith, inl, inr, subst, Option, Some, None, slice_get, swap_remove}
+use Rattle.std.proofs.Common.{◌≡◌, ℕ, zero, suc, ◌+◌, ◌-◌, ◌<◌, ◌≤◌, List, [], ◌∷◌, length, get_or, set, take, refl, sym, ap, ◌∙◌, arith, inl, inr, subst, Option, Some, None, slice_get, swap_remove}
+use Rattle.std.proofs.lemmas.List.{take-set}
 use Rattle.std.specs.Prelude.{IfSome}
 use Rattle.std.proofs.lemmas.Bool.{cases_lt}
 use Rattle.std.proofs.lemmas.List.Elements.{All-from_get_or, All-get_or}
@@ -71,3 +72,14 @@ length-taken waiting at entry is =
   where
     some-same : (a b : Waiting) → Some a ≡ Some b → a ≡ b
     some-same a b e = cc
+
+take-within : (m n : ℕ) (xs : List Waiting) → m ≤ n → take m (take n xs) ≡ take m xs
+take-within zero n xs le = refl
+take-within (suc m) zero xs le = absurd (let bad : ⊥ = omega arith in bad)
+take-within (suc m) (suc n) [] le = refl
+take-within (suc m) (suc n) (x ∷ rest) le = ap (λ l. x ∷ l) (take-within m n rest (omega arith))
+
+-- and those before it stand as they stood
+pub before-taken : (xs : List Waiting) (at : ℕ) (entry : Waiting) → at < length xs → take at (swap_remove xs at entry) ≡ take at xs
+before-taken xs at entry lt =
+    take-within at (length xs - 1) (set xs at (get_or xs (length xs - 1) entry)) (omega arith) ∙ take-set xs at (get_or xs (length xs - 1) entry)

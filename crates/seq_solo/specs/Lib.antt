@@ -1,6 +1,8 @@
 pub mod Counts
 pub mod Sums
 pub mod Known
+pub mod Looks
+pub mod Settling
 pub mod Choice
 pub mod Parts
 pub mod Steps

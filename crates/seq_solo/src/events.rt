@@ -1,6 +1,6 @@
 //! The events of a search: a group is entered, raised to what its parts' lows give, and capped by what
 //! their ups give. Each keeps the rows sound, and beside each number what its group counts.
-ghost use Rattle.std.specs.Prelude.{◌≡◌, ◌<◌, Contains, false, length, IfOk, [], ◌∷◌, ◌++◌};
+ghost use Rattle.std.specs.Prelude.{◌≡◌, ◌<◌, Contains, false, length, slice_set, IfOk, [], ◌∷◌, ◌++◌};
 ghost use Rattle.seq_theory.specs.Bound.{step_sum};
 ghost use Rattle.seq_theory.specs.Graph.{is_entered, IsReal};
 ghost use Rattle.seq_theory.specs.Greedy.{greedy_cost};
@@ -9,6 +9,7 @@ ghost use Rattle.seq_inst.specs.Members.{members};
 ghost use Rattle.seq_inst.specs.Instances.{problem_of};
 ghost use Rattle.seq_core.specs.RowsOf.{rows_of as rows_from};
 ghost use Rattle.seq_solo.specs.Known.{IsKnown, Narrows, group_at, splits_at, IsClosedAt, raised_at, capped_at, narrowed_at};
+ghost use Rattle.seq_solo.specs.Settling.{tightened_row};
 ghost use Rattle.seq_solo.specs.Steps.{least_test as least_test_of, ClosesBelow};
 
 use crate::choice::{Chosen, least_test, least_up};
@@ -53,13 +54,14 @@ fn narrow(counts: &mut Vec<Count>, number: usize, low: u64, up: u64)
 }
 
 /// Raises a group to the least sum of its tests, and caps it by those that are evaluated.
-fn tighten(inst: &Instance, search: &mut Search, place: usize, chosen: Chosen)
+pub(crate) fn tighten(inst: &Instance, search: &mut Search, place: usize, chosen: Chosen)
     requires known { IsKnown (problem_of inst.now) search.old }
     requires place { place < length search.old.rows.items }
     requires test { chosen.split.test ≡ least_test_of (problem_of inst.now) search.old.rows.items (members (group_at search.old.rows.items place)) }
     requires sum { chosen.sum ≡ step_sum (problem_of inst.now) (known_low (problem_of inst.now) (rows_from search.old.rows.items)) (members (group_at search.old.rows.items place)) chosen.split.test }
     requires evaluated { Contains (splits_at search.old.kept.items place) chosen.split }
     ensures known { IsKnown (problem_of inst.now) search.new }
+    ensures rows { search.new.rows.items ≡ slice_set search.old.rows.items place (tightened_row (problem_of inst.now) search.old.rows.items search.old.kept.items place) }
     ensures narrows { Narrows search.old.rows.items search.new.rows.items }
     ensures closes { ClosesBelow (problem_of inst.now) search.old.rows.items (members (group_at search.old.rows.items place)) → IsClosedAt search.new.rows.items place }
 {

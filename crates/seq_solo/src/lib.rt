@@ -9,7 +9,8 @@
 //! Each group that is met has a number, and what it counts stands in a list by number, so a sum costs two
 //! look-ups. The tests that split a group are listed once, when it is entered. Each waits with a number
 //! that is at most its sum, and is evaluated where the least sum isn't certain without it, or where both
-//! of its parts have an up. Those whose sums pass the group's up are left out for good.
+//! of its parts have an up. Those whose sums pass the group's up are left out for good. What is so kept of each group
+//! serves at the end, when the rows are settled for the outcome.
 #![tactic(auto)]
 
 mod alone;
@@ -19,11 +20,12 @@ mod events;
 mod found;
 mod look;
 mod search;
+mod settling;
 mod sums;
 #[cfg(test)]
 mod tests;
 mod turn;
 mod waiting;
 
-pub use alone::solve_alone;
+pub use alone::{outcome_alone, solve_alone};
 pub use found::Found;

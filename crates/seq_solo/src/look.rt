@@ -2,9 +2,15 @@
 //! other tests. Such a test counts for the group's up, so it is evaluated. When a group is entered all
 //! tests that wait are looked at; later those alone that make a part that was entered since the last
 //! look, unless there are many.
-ghost use Rattle.std.specs.Prelude.{◌≡◌, ◌<◌, length, IfOk};
+ghost use Rattle.std.specs.Prelude.{◌≡◌, ◌<◌, length, is_some, vec_len, Contains, IfOk};
+ghost use Rattle.seq_theory.specs.Graph.{step_value};
+ghost use Rattle.seq_theory.specs.Rows.{known_up};
+ghost use Rattle.seq_inst.specs.Members.{members};
 ghost use Rattle.seq_inst.specs.Instances.{problem_of};
-ghost use Rattle.seq_solo.specs.Known.{IsKnown, waiting_at};
+ghost use Rattle.seq_core.specs.declared.kept.Split.{Split};
+ghost use Rattle.seq_core.specs.RowsOf.{rows_of as rows_from};
+ghost use Rattle.seq_solo.specs.Known.{IsKnown, splits_at, waiting_at};
+ghost use Rattle.seq_solo.specs.Looks.{NoneIsValued};
 
 use crate::search::Search;
 use crate::waiting::evaluate;
@@ -18,11 +24,22 @@ const FEW: usize = 8;
 /// Whether the group has one goal, or a number beside which an up stands.
 fn has_up(inst: &Instance, search: &Search, group: &Group) -> bool
     requires known { IsKnown (problem_of inst.now) search.now }
+    ensures { result ≡ is_some (known_up (problem_of inst.now) (rows_from search.now.rows.items) (members group.now)) }
 {
     match search.numbers.find(group) {
         Some(number) => search.counts[number as usize].up != u64::MAX,
         None => is_leaf(inst, group),
     }
+}
+
+/// Whether both parts of the group by the test have an up.
+fn have_ups(inst: &Instance, search: &Search, group: &Group, test: u32) -> bool
+    requires known { IsKnown (problem_of inst.now) search.now }
+    requires there { test < vec_len inst.now.costs }
+    ensures { result ≡ is_some (step_value (problem_of inst.now) (known_up (problem_of inst.now) (rows_from search.now.rows.items)) (members group.now) test) }
+{
+    has_up(inst, search, &part(inst, group, test, Answer::Pass))
+        && has_up(inst, search, &part(inst, group, test, Answer::Fail))
 }
 
 /// The part that passes the test that waits at this place of the list.
@@ -55,12 +72,14 @@ pub(crate) fn look_at_all(
     requires place { place < length search.old.rows.items }
     ensures known { IfOk result (λ _. IsKnown (problem_of inst.now) search.new) }
     ensures rows { IfOk result (λ _. search.new.rows.items ≡ search.old.rows.items) }
+    ensures valued { IfOk result (λ _. NoneIsValued (problem_of inst.now) search.new.rows.items search.new.kept.items place) }
+    ensures listed { IfOk result (λ _. (s : Split) → Contains (splits_at search.old.kept.items place) s → Contains (splits_at search.new.kept.items place) s) }
 {
     let group = search.rows[place].group;
     let mut at = 0;
     while at < search.kept[place].waiting.len() {
-        let pass = pass_part(inst, search, place, at);
-        if has_up(inst, search, &pass) && has_up(inst, search, &without(&group, &pass)) {
+        let test = search.kept[place].waiting[at].test;
+        if have_ups(inst, search, &group, test) {
             evaluate(scratch, inst, search, place, at)?;
         } else {
             at += 1;

@@ -1,7 +1,7 @@
 //! Worked walks, and the outcomes that are made from them.
 
-use crate::{Found, solve_alone};
-use seq_finish::{finish, finish_by};
+use crate::{Found, outcome_alone, solve_alone};
+use seq_finish::finish;
 use seq_inst::{Group, Instance, Verdict, cost_of, root};
 use std::alloc::{AllocError, Global};
 use std::test::Fail;
@@ -62,14 +62,10 @@ fn one_class(alloc: Global) -> Result<Instance, AllocError> {
 fn two_faults_need_one_group(rt: HostRuntime) -> Result<(), Fail> {
     let alloc = rt.alloc();
     let inst = two_faults(alloc)?;
-    let Found {
-        rows,
-        missed,
-        numbers,
-    } = solve_alone(alloc, &inst, 4096)?;
+    let Found { rows, missed } = solve_alone(alloc, &inst, 4096)?;
     assert_eq!(rt; rows.len(), 1);
     assert!(rt; missed.is_none());
-    let outcome = finish_by(alloc, &inst, numbers, 4096, rows, missed)?;
+    let outcome = outcome_alone(alloc, &inst, 4096)?;
     assert_eq!(rt; outcome.verdict, Verdict::Optimal);
     assert_eq!(rt; outcome.cost, 27);
     assert_eq!(rt; cost_of(&inst, &outcome.strategy, &root(&inst)), 27);
@@ -80,12 +76,7 @@ fn two_faults_need_one_group(rt: HostRuntime) -> Result<(), Fail> {
 fn a_star_within_four_groups(rt: HostRuntime) -> Result<(), Fail> {
     let alloc = rt.alloc();
     let inst = star(alloc)?;
-    let Found {
-        rows,
-        missed,
-        numbers,
-    } = solve_alone(alloc, &inst, 4)?;
-    let outcome = finish_by(alloc, &inst, numbers, 4, rows, missed)?;
+    let outcome = outcome_alone(alloc, &inst, 4)?;
     assert_eq!(rt; outcome.verdict, Verdict::Bounded);
     assert_eq!(rt; outcome.cost, 14);
     assert_eq!(rt; outcome.low, 13);
@@ -102,13 +93,9 @@ fn a_star_within_four_groups(rt: HostRuntime) -> Result<(), Fail> {
 fn a_star_within_five_groups(rt: HostRuntime) -> Result<(), Fail> {
     let alloc = rt.alloc();
     let inst = star(alloc)?;
-    let Found {
-        rows,
-        missed,
-        numbers,
-    } = solve_alone(alloc, &inst, 5)?;
+    let Found { missed, .. } = solve_alone(alloc, &inst, 5)?;
     assert!(rt; missed.is_none());
-    let outcome = finish_by(alloc, &inst, numbers, 5, rows, missed)?;
+    let outcome = outcome_alone(alloc, &inst, 5)?;
     assert_eq!(rt; outcome.verdict, Verdict::Optimal);
     assert_eq!(rt; outcome.cost, 14);
     assert_eq!(rt; outcome.low, 14);
@@ -120,12 +107,7 @@ fn a_star_within_five_groups(rt: HostRuntime) -> Result<(), Fail> {
 fn two_halves_within_two_groups(rt: HostRuntime) -> Result<(), Fail> {
     let alloc = rt.alloc();
     let inst = two_halves(alloc)?;
-    let Found {
-        rows,
-        missed,
-        numbers,
-    } = solve_alone(alloc, &inst, 2)?;
-    let outcome = finish_by(alloc, &inst, numbers, 2, rows, missed)?;
+    let outcome = outcome_alone(alloc, &inst, 2)?;
     assert_eq!(rt; outcome.verdict, Verdict::Bounded);
     assert_eq!(rt; outcome.cost, 26);
     assert_eq!(rt; outcome.low, 25);
@@ -133,6 +115,27 @@ fn two_halves_within_two_groups(rt: HostRuntime) -> Result<(), Fail> {
     assert_eq!(rt; outcome.rows.len(), 2);
     assert!(rt; outcome.rows[1].group == Group([15, 0, 0, 0, 0, 0, 0, 0]));
     assert_eq!(rt; outcome.rows[1].low, 9);
+    Ok(())
+}
+
+/// A search settles its own rows to what `finish` settles the walk's rows to.
+#[test]
+fn a_search_settles_as_finish_does(rt: HostRuntime) -> Result<(), Fail> {
+    let alloc = rt.alloc();
+    let inst = two_halves(alloc)?;
+    let Found { rows, missed } = solve_alone(alloc, &inst, 7)?;
+    let afresh = finish(alloc, &inst, 7, rows, missed)?;
+    let outcome = outcome_alone(alloc, &inst, 7)?;
+    assert_eq!(rt; outcome.verdict, afresh.verdict);
+    assert_eq!(rt; outcome.cost, afresh.cost);
+    assert_eq!(rt; outcome.low, afresh.low);
+    assert!(rt; outcome.missed == afresh.missed);
+    assert_eq!(rt; outcome.rows.len(), afresh.rows.len());
+    for (row, other) in outcome.rows.iter().zip(afresh.rows.iter()) {
+        assert!(rt; row.group == other.group);
+        assert_eq!(rt; row.low, other.low);
+        assert_eq!(rt; row.up, other.up);
+    }
     Ok(())
 }
 

@@ -1,7 +1,8 @@
 //! The tests of a group that wait to be evaluated. Each waits with a number that is at most its sum. The
 //! test that is evaluated next is the one of least number, until all numbers are above the least sum.
-ghost use Rattle.std.specs.Prelude.{◌≡◌, ◌<◌, ◌++◌, ◌∷◌, length, IfOk, IfSome, IfNone, []};
+ghost use Rattle.std.specs.Prelude.{◌≡◌, ◌<◌, ◌++◌, ◌∷◌, length, take, Contains, IfOk, IfSome, IfNone, []};
 ghost use Rattle.seq_inst.specs.Instances.{problem_of};
+ghost use Rattle.seq_core.specs.declared.kept.Split.{Split};
 ghost use Rattle.seq_solo.specs.Known.{IsKnown, splits_at, waiting_at};
 ghost use Rattle.seq_solo.specs.Choice.{IsLeastWaiting, IsCertain};
 
@@ -56,6 +57,8 @@ pub(crate) fn evaluate(
     ensures known { IfOk result (λ _. IsKnown (problem_of inst.now) search.new) }
     ensures rows { IfOk result (λ _. search.new.rows.items ≡ search.old.rows.items) }
     ensures last { IfOk result (λ s. splits_at search.new.kept.items place ≡ splits_at search.old.kept.items place ++ s ∷ []) }
+    ensures before { IfOk result (λ _. take at (waiting_at search.new.kept.items place) ≡ take at (waiting_at search.old.kept.items place)) }
+    ensures listed { IfOk result (λ _. (s : Split) → Contains (splits_at search.old.kept.items place) s → Contains (splits_at search.new.kept.items place) s) }
     ensures fewer { IfOk result (λ _. length (waiting_at search.new.kept.items place) < length (waiting_at search.old.kept.items place)) }
 {
     let group = search.rows[place].group;

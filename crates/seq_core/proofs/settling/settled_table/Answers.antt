@@ -5,7 +5,7 @@ use Rattle.seq_huff.proofs.CountedLaws.{counted-length, counted-below}
 use Rattle.seq_core.specs.Tables.{Table}
 use Rattle.seq_core.specs.Allowed.{tightened}
 use Rattle.seq_core.specs.Settled.{IsSettledTo}
-use Rattle.seq_core.proofs.SettleSteps.{order-of, settled-none, settled-next, settled-end}
+use Rattle.seq_core.proofs.SettleSteps.{settled-none, settled-next, settled-end}
 use Rattle.seq_core.proofs.settling.settled_table.Goals as goal
 
 pub loop-turn-init : goal.loop-turn-init
@@ -14,7 +14,7 @@ loop-turn-init c = settled-none c.args.inst.now c.args.rows.now c.in_ok-table.ta
 pub settle_row-requires-clause-there : goal.settle_row-requires-clause-there
 settle_row-requires-clause-there c =
     let rows = c.args.rows.now in
-    let by = order-of rows _ c.in_ok-order.order.items (c.as_slice.ensures.value ∙ c.in_ok-sizes.ensures) c.in_ok-order.ensures in
+    let by = c.in_ok-order.ensures in
     let many = counted-length (length rows) c.in_ok-order.order.items by.each_once in
     let long = c.loop-turn.invariant.settling.many in
     let at = get_or_read c.in_ok-order.order.items c.loop-turn.turn c.index.result.now (omega arith) c.index.ensures 0 in
@@ -29,7 +29,7 @@ loop-turn-preserved c =
     let order = c.in_ok-order.order.items in
     let t = c.loop-turn.table in
     let turn = c.loop-turn.turn in
-    let by = order-of rows _ order (c.as_slice.ensures.value ∙ c.in_ok-sizes.ensures) c.in_ok-order.ensures in
+    let by = c.in_ok-order.ensures in
     let many = counted-length (length rows) order by.each_once in
     let lt : turn < length order = omega arith in
     let at : c.index.result.now ≡ slice_index order turn = get_or_read order turn c.index.result.now lt c.index.ensures 0 in
@@ -40,5 +40,5 @@ pub returns : goal.returns
 returns c =
     let rows = c.args.rows.now in
     let order = c.in_ok-order.order.items in
-    let by = order-of rows _ order (c.as_slice.ensures.value ∙ c.in_ok-sizes.ensures) c.in_ok-order.ensures in
+    let by = c.in_ok-order.ensures in
     settled-end (problem_of c.args.inst.now) rows c.loop-turn.table order c.loop-turn.turn by (omega arith) c.loop-turn.invariant

@@ -5,7 +5,7 @@ use Rattle.seq_solo.specs.Known.{AreKnown, capped_at, raised_at}
 use Rattle.seq_solo.proofs.CountLaws.{kept-read, counts-long}
 use Rattle.seq_solo.proofs.CountChanges.{narrowed-known}
 use Rattle.seq_solo.proofs.EventLaws.{IsRefreshed}
-use Rattle.seq_solo.proofs.TightenLaws.{tightened, closes-below}
+use Rattle.seq_solo.proofs.TightenLaws.{tightened, tightened-rows, closes-below}
 use Rattle.seq_solo.proofs.events.tighten.Goals as goal
 
 pub narrow-requires : goal.narrow-requires
@@ -31,6 +31,12 @@ returns-clause-known c =
     subst (λ l. AreKnown p s.numbers l s.kept.items c.narrow.new.counts.items) (sym is)
     (subst (λ l. AreKnown p s.numbers (capped_at (raised_at rows place low) place up) s.kept.items l) (sym c.narrow.ensures)
     (narrowed-known c.args.inst.now s.numbers rows s.kept.items s.counts.items c.requires.known place c.requires.place c.index-2.result.now c.index-2.ensures low up (subst (λ l. IsRefreshed p rows l place low up) is refreshed)))
+
+pub returns-clause-rows : goal.returns-clause-rows
+returns-clause-rows c =
+    let s = c.args.search.now in
+    tightened-rows c.args.inst.now s.numbers s.rows.items s.kept.items s.counts.items c.requires.known c.args.place c.requires.place c.index.result.now c.index.ensures c.args.chosen.split.test c.args.chosen.sum c.max-low.result c.least_up-up.result
+    c.requires.test c.requires.sum c.max-low.ensures c.least_up-up.ensures c.raise.new.rows.items c.cap.new.rows.items c.raise.ensures c.cap.ensures
 
 pub returns-clause-narrows : goal.returns-clause-narrows
 returns-clause-narrows c =

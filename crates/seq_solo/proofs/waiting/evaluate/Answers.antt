@@ -1,5 +1,7 @@
-use Rattle.std.proofs.Common.{length, sym, ap, subst, arith}
-use Rattle.std.specs.Prelude.{All}
+use Rattle.std.proofs.Common.{◌∙◌, ◌∷◌, [], length, take, sym, ap, subst, arith}
+use Rattle.std.specs.Prelude.{All, Contains}
+use Rattle.std.proofs.lemmas.List.Elements.{Contains-append_left}
+use Rattle.std.proofs.lemmas.Option.{slice_get_within}
 use Rattle.std.proofs.lemmas.List.{get_or_read}
 use Rattle.seq_theory.specs.Problem.{IsIn, IsWithin, splitting}
 use Rattle.seq_inst.specs.declared.outcome.Row.{Row}
@@ -12,8 +14,8 @@ use Rattle.seq_solo.proofs.KnownLaws.{row-within}
 use Rattle.seq_solo.proofs.NumberLaws.{keeps-long}
 use Rattle.seq_solo.proofs.CountLaws.{kept-read, counts-long}
 use Rattle.seq_solo.proofs.CountChanges.{evaluated-known}
-use Rattle.seq_solo.proofs.SplitLaws.{waiting-read, waiting-set}
-use Rattle.seq_solo.proofs.WaitingLaws.{length-taken}
+use Rattle.seq_solo.proofs.SplitLaws.{splits-read, splits-set, waiting-read, waiting-set}
+use Rattle.seq_solo.proofs.WaitingLaws.{length-taken, before-taken}
 use Rattle.seq_solo.proofs.waiting.evaluate.Goals as goal
 
 pub evaluate-requires-clause-within : goal.evaluate-requires-clause-within
@@ -69,3 +71,24 @@ returns-clause-fewer c =
     let taken = ap length e.waiting in
     let fewer = length-taken c.index_mut.result.now.waiting.items c.args.at e.entry e.waited in
     omega arith
+
+pub returns-clause-before : goal.returns-clause-before
+returns-clause-before c =
+    let s = c.args.search.now in
+    let long = c.requires.known.kept_are.as_many in
+    let place = c.requires.place in
+    let before = waiting-read s.kept.items c.args.place c.index_mut.result.now (omega arith) c.index_mut.ensures.value in
+    let after = waiting-set s.kept.items c.args.place c.evaluate.new.self (omega arith) in
+    let e = c.in_ok-evaluate.ensures.evaluated in
+    let taken = before-taken c.index_mut.result.now.waiting.items c.args.at e.entry (slice_get_within c.index_mut.result.now.waiting.items c.args.at e.entry e.waited) in
+    ap (take c.args.at) (after ∙ e.waiting) ∙ taken ∙ sym (ap (take c.args.at) before)
+
+pub returns-clause-listed : goal.returns-clause-listed
+returns-clause-listed c = λ s there.
+    let long = c.requires.known.kept_are.as_many in
+    let place = c.requires.place in
+    let kept = c.args.search.now.kept.items in
+    let e = c.in_ok-evaluate.ensures.evaluated in
+    let before = splits-read kept c.args.place c.index_mut.result.now (omega arith) c.index_mut.ensures.value in
+    let after = splits-set kept c.args.place c.evaluate.new.self (omega arith) ∙ e.splits in
+    subst (λ l. Contains l s) (sym after) (Contains-append_left c.index_mut.result.now.splits.items (e.split ∷ []) s (subst (λ l. Contains l s) before there))

@@ -1,31 +1,23 @@
-use Rattle.std.proofs.Common.{◌≡◌, ◌∙◌, sym, ap, subst}
+use Rattle.std.proofs.Common.{◌≡◌, ◌∙◌, sym, ap, subst, None}
 use Rattle.std.specs.Prelude.{true}
 use Rattle.seq_theory.specs.Graph.{is_entered}
 use Rattle.seq_theory.specs.Problem.{all_classes, is_end}
 use Rattle.seq_inst.specs.Instances.{problem_of}
-use Rattle.seq_core.specs.Numbered.{AreNumbers}
-use Rattle.seq_theory.specs.Rows.{IsSound}
-use Rattle.seq_core.specs.RowsOf.{rows_of as rows_from}
 use Rattle.seq_core.specs.Settled.{groups_in}
-use Rattle.seq_solo.specs.Found.{BeginsWithAll, IsSolved, HasEnded}
+use Rattle.seq_solo.specs.Found.{BeginsWithAll}
 use Rattle.seq_solo.proofs.FoundLaws.{root-real, begun, nothing-solved, walking-begins, root-entered, walking-sound, solved, may-stop, closed-read, stopped-same}
-use Rattle.seq_solo.proofs.alone.solve_alone.Goals as goal
+use Rattle.seq_solo.proofs.alone.walk.Goals as goal
 
 pub returns-then-is_leaf-clause-ended : goal.returns-then-is_leaf-clause-ended
 returns-then-is_leaf-clause-ended c =
     let p = problem_of c.args.inst.now in
-    let rows = c.found_by.result.rows.items in
-    subst (HasEnded p c.args.limit rows) (sym c.found_by.ensures.missed) (nothing-solved p rows (sym (ap (is_end p) c.root-all.ensures) ∙ sym c.is_leaf.ensures ∙ c.if-is_leaf.true))
+    nothing-solved p c.in_ok-search.search.rows.items (sym (ap (is_end p) c.root-all.ensures) ∙ sym c.is_leaf.ensures ∙ c.if-is_leaf.true)
 
 pub returns-then-is_leaf-clause-stopped : goal.returns-then-is_leaf-clause-stopped
 returns-then-is_leaf-clause-stopped c =
     let p = problem_of c.args.inst.now in
-    let rows = c.found_by.result.rows.items in
-    may-stop p c.args.limit rows c.found_by.result.missed
-    (subst (HasEnded p c.args.limit rows) (sym c.found_by.ensures.missed) (nothing-solved p rows (sym (ap (is_end p) c.root-all.ensures) ∙ sym c.is_leaf.ensures ∙ c.if-is_leaf.true)))
-
-pub returns-then-is_leaf-clause-numbers : goal.returns-then-is_leaf-clause-numbers
-returns-then-is_leaf-clause-numbers c = let p = problem_of c.args.inst.now in subst (AreNumbers p) (sym c.found_by.ensures.numbers) c.in_ok-search.ensures.known.numbers_are
+    let rows = c.in_ok-search.search.rows.items in
+    may-stop p c.args.limit rows None (nothing-solved p rows (sym (ap (is_end p) c.root-all.ensures) ∙ sym c.is_leaf.ensures ∙ c.if-is_leaf.true))
 
 pub enter-requires-clause-real : goal.enter-requires-clause-real
 enter-requires-clause-real c = root-real (problem_of c.args.inst.now) c.root-all.result c.root-all.ensures (sym c.is_leaf.ensures ∙ c.if-is_leaf.false)
@@ -37,46 +29,42 @@ turns-init c = record {
 }
 
 pub returns-clause-sound : goal.returns-clause-sound
-returns-clause-sound c =
-    let p = problem_of c.args.inst.now in
-    subst (λ l. IsSound p c.args.limit (rows_from l)) (sym c.found_by-2.ensures.rows) (walking-sound p c.args.limit c.turns.search.rows.items c.turns.invariant.walk)
+returns-clause-sound c = walking-sound (problem_of c.args.inst.now) c.args.limit c.turns.search.rows.items c.turns.invariant.walk
 
 pub returns-clause-first : goal.returns-clause-first
 returns-clause-first c =
     let p = problem_of c.args.inst.now in
-    subst (BeginsWithAll p) (sym c.found_by-2.ensures.rows) (walking-begins p c.args.limit c.turns.search.rows.items (sym (ap (is_end p) c.root-all.ensures) ∙ sym c.is_leaf.ensures ∙ c.if-is_leaf.false) c.turns.invariant.walk)
+    walking-begins p c.args.limit c.turns.search.rows.items (sym (ap (is_end p) c.root-all.ensures) ∙ sym c.is_leaf.ensures ∙ c.if-is_leaf.false) c.turns.invariant.walk
 
 pub returns-clause-root : goal.returns-clause-root
 returns-clause-root c = λ more.
     let p = problem_of c.args.inst.now in
     let rows = c.turns.search.rows.items in
-    subst (λ l. is_entered (groups_in l) (all_classes p) ≡ true) (sym c.found_by-2.ensures.rows) (root-entered p rows (walking-begins p c.args.limit rows more c.turns.invariant.walk) more)
+    root-entered p rows (walking-begins p c.args.limit rows more c.turns.invariant.walk) more
 
 pub returns-clause-ended : goal.returns-clause-ended
 returns-clause-ended c =
-    let p = problem_of c.args.inst.now in
     let rows = c.turns.search.rows.items in
     let closed = closed-read rows c.index.result.now c.index-in-turns.result.now c.turns.invariant.walk.some c.index.ensures c.index-in-turns.ensures c.turns-test.false in
-    subst (HasEnded p c.args.limit c.found_by-2.result.rows.items) (sym c.found_by-2.ensures.missed) (subst (IsSolved p) (sym c.found_by-2.ensures.rows) (solved c.args.inst.now c.args.limit rows c.turns.invariant.walk closed))
+    solved c.args.inst.now c.args.limit rows c.turns.invariant.walk closed
 
 pub returns-clause-stopped : goal.returns-clause-stopped
 returns-clause-stopped c =
     let p = problem_of c.args.inst.now in
     let rows = c.turns.search.rows.items in
     let closed = closed-read rows c.index.result.now c.index-in-turns.result.now c.turns.invariant.walk.some c.index.ensures c.index-in-turns.ensures c.turns-test.false in
-    may-stop p c.args.limit c.found_by-2.result.rows.items c.found_by-2.result.missed
-    (subst (HasEnded p c.args.limit c.found_by-2.result.rows.items) (sym c.found_by-2.ensures.missed) (subst (IsSolved p) (sym c.found_by-2.ensures.rows) (solved c.args.inst.now c.args.limit rows c.turns.invariant.walk closed)))
+    may-stop p c.args.limit rows None (solved c.args.inst.now c.args.limit rows c.turns.invariant.walk closed)
 
 pub returns-in-Some-clause-root : goal.returns-in-Some-clause-root
 returns-in-Some-clause-root c = λ more.
     let p = problem_of c.args.inst.now in
     let rows = c.turns.search.rows.items in
     let same = stopped-same p c.args.limit rows c.turn.new.search.rows.items c.in_ok-missed.field-0 c.in-Some.missed c.in_ok-missed.ensures.turned c.in-Some.is in
-    subst (λ l. is_entered (groups_in l) (all_classes p) ≡ true) (sym (c.found_by-in-Some.ensures.rows ∙ same)) (root-entered p rows (walking-begins p c.args.limit rows more c.turns.invariant.walk) more)
+    subst (λ l. is_entered (groups_in l) (all_classes p) ≡ true) (sym same) (root-entered p rows (walking-begins p c.args.limit rows more c.turns.invariant.walk) more)
 
 pub returns-in-Some-clause-first : goal.returns-in-Some-clause-first
 returns-in-Some-clause-first c =
     let p = problem_of c.args.inst.now in
     let rows = c.turns.search.rows.items in
     let same = stopped-same p c.args.limit rows c.turn.new.search.rows.items c.in_ok-missed.field-0 c.in-Some.missed c.in_ok-missed.ensures.turned c.in-Some.is in
-    subst (BeginsWithAll p) (sym (c.found_by-in-Some.ensures.rows ∙ same)) (walking-begins p c.args.limit rows (sym (ap (is_end p) c.root-all.ensures) ∙ sym c.is_leaf.ensures ∙ c.if-is_leaf.false) c.turns.invariant.walk)
+    subst (BeginsWithAll p) (sym same) (walking-begins p c.args.limit rows (sym (ap (is_end p) c.root-all.ensures) ∙ sym c.is_leaf.ensures ∙ c.if-is_leaf.false) c.turns.invariant.walk)

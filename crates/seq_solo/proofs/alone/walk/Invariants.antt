@@ -2,7 +2,7 @@ use Rattle.seq_inst.specs.Instances.{problem_of}
 use Rattle.seq_solo.specs.Known.{IsKnown}
 use Rattle.seq_solo.specs.Walks.{left}
 use Rattle.seq_solo.proofs.FoundLaws.{IsWalking}
-use Rattle.seq_solo.proofs.alone.solve_alone.Given as goal
+use Rattle.seq_solo.proofs.alone.walk.Given as goal
 
 abbrev pub invariant-turns : goal.invariant-turns
 invariant-turns l = record {

@@ -1,0 +1,57 @@
+//! The best bounds that the entered groups of a search give it. The walk raises and caps a row only when
+//! it comes through, so at its end many a row is behind what the others allow. Here the rows are gone
+//! through once more, from the smallest groups on: a group's parts have fewer classes than it has, so when
+//! its turn comes theirs are final. What the walk left out or leaves waiting can't lead lower, but for the
+//! tests of which both parts have an up by now, so these are evaluated first. All sums are looked up by
+//! number, and so a settled search costs a fraction of settling the same rows afresh.
+ghost use Rattle.std.specs.Prelude.{◌≡◌, ◌<◌, length, slice_set, IfOk};
+ghost use Rattle.seq_inst.specs.Instances.{problem_of};
+ghost use Rattle.seq_core.specs.Settled.{groups_in, size_at, settled_row, settled_rows};
+ghost use Rattle.seq_solo.specs.Known.{IsKnown, row_at};
+ghost use Rattle.seq_solo.specs.Settling.{AreSettledBelow};
+
+use crate::choice::least_test;
+use crate::events::tighten;
+use crate::look::look_at_all;
+use crate::search::Search;
+use seq_core::smallest_first;
+use seq_huff::Scratch;
+use seq_inst::Instance;
+use std::alloc::{AllocError, Global};
+
+/// Gives the row at a place its low and its value, where those of all smaller groups are settled.
+fn settle_row(
+    scratch: &mut Scratch,
+    inst: &Instance,
+    search: &mut Search,
+    place: usize,
+) -> Result<(), AllocError>
+    requires known { IsKnown (problem_of inst.now) search.old }
+    requires place { place < length search.old.rows.items }
+    requires below { AreSettledBelow (problem_of inst.now) search.old.rows.items (size_at search.old.rows.items place) }
+    ensures known { IfOk result (λ _. IsKnown (problem_of inst.now) search.new) }
+    ensures rows { IfOk result (λ _. search.new.rows.items ≡ slice_set search.old.rows.items place (settled_row (problem_of inst.now) (groups_in search.old.rows.items) (row_at search.old.rows.items place))) }
+{
+    let chosen = least_test(scratch, inst, search, place)?;
+    look_at_all(scratch, inst, search, place)?;
+    tighten(inst, search, place, chosen);
+    Ok(())
+}
+
+/// Gives each row the low and the value that the rows' groups give it together.
+pub(crate) fn settle(
+    alloc: Global,
+    scratch: &mut Scratch,
+    inst: &Instance,
+    search: &mut Search,
+) -> Result<(), AllocError>
+    requires known { IsKnown (problem_of inst.now) search.old }
+    ensures known { IfOk result (λ _. IsKnown (problem_of inst.now) search.new) }
+    ensures rows { IfOk result (λ _. search.new.rows.items ≡ settled_rows (problem_of inst.now) search.old.rows.items) }
+{
+    let order = smallest_first(alloc, search.rows.as_slice())?;
+    for turn in 0..order.len() {
+        settle_row(scratch, inst, search, order[turn] as usize)?;
+    }
+    Ok(())
+}
