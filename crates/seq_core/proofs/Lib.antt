@@ -1,4 +1,3 @@
-pub mod OrderLaws
 pub mod MappingLaws
 pub mod TableLaws
 pub mod ChangeLaws

@@ -70,10 +70,10 @@ eight words w = record { eight = w.eight; each = w.each }
 words-same : (a b : List ℕ) → IsWords a → IsWords b → same_group (classes_of a) (classes_of b) ≡ true → a ≡ b
 words-same a b wa wb e = same_members (record { 0 = a }) (record { 0 = b }) (eight a wa) (eight b wb) (same_group-true (classes_of a) (classes_of b) e)
 
-same-classes : (a b : List ℕ) → bytes_eq a b ≡ true → same_group (classes_of a) (classes_of b) ≡ true
+pub same-classes : (a b : List ℕ) → bytes_eq a b ≡ true → same_group (classes_of a) (classes_of b) ≡ true
 same-classes a b e = ap (λ l. same_group (classes_of a) (classes_of l)) (sym ((bytes_eq-Decides a b).0 e)) ∙ same_group-refl (classes_of a)
 
-other-classes : (a b : List ℕ) → IsWords a → IsWords b → bytes_eq a b ≡ false → same_group (classes_of a) (classes_of b) ≡ false
+pub other-classes : (a b : List ℕ) → IsWords a → IsWords b → bytes_eq a b ≡ false → same_group (classes_of a) (classes_of b) ≡ false
 other-classes a b wa wb n = elim (cases_Bool (same_group (classes_of a) (classes_of b))) [
   | inr m ↦ m
   | inl y ↦ absurd (true≢false (sym ((bytes_eq-Decides a b).1 (words-same a b wa wb y)) ∙ n))

@@ -1,6 +1,4 @@
-pub mod GroupOrder
 pub mod Mapping
-pub mod Ordered
 pub mod RowsOf
 pub mod WorthOf
 pub mod Words

@@ -1,6 +1,7 @@
 -- A map from groups to places.
-use Rattle.std.specs.Prelude.{ℕ, cond, List, [], ◌∷◌, Option, Some, None}
+use Rattle.std.specs.Prelude.{ℕ, cond, List, [], ◌∷◌, map, Option, Some, None}
 use Rattle.seq_theory.specs.Graph.{same_group}
+use Rattle.seq_core.specs.Words.{classes_of}
 
 -- a group, as the list of its classes, with its place
 pub record Placed : Type 0 where
@@ -16,3 +17,7 @@ pub record Mapping : Type 0 where
 abbrev pub place_of : List Placed → List ℕ → Option ℕ
 place_of [] group = None
 place_of (x ∷ rest) group = cond (same_group group x.group) (Some x.place) (place_of rest group)
+
+-- places by the words of their groups, as the map shows them
+abbrev pub placed_from : List (List ℕ × ℕ) → List Placed
+placed_from entries = map (λ e. record { group = classes_of e.0; place = e.1 }) entries

@@ -14,10 +14,8 @@ mod kept;
 mod laws;
 mod machine;
 mod numbers;
-mod order;
 mod places;
 mod settling;
-mod slots;
 mod table;
 #[cfg(test)]
 mod tests;

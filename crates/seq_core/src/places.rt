@@ -1,11 +1,12 @@
-//! A map from groups to places that takes no memory once it is made. The entries stay where they were
-//! added; beside them stands the list of their numbers, sorted by group, so that adding moves numbers
-//! of four bytes and not groups of sixty-four. A group is found by halving that list.
-ghost use Rattle.std.specs.Prelude.{◌≡◌, ◌++◌, ◌∷◌, [], ◌<◌, ◌≤◌, length, IfOk, Option, None, vec_capacity};
+//! A map from groups to places that takes no memory once it is made. A group is found by its eight words,
+//! in a table for which room is made at the start, so that a look-up takes about one comparison however
+//! many groups there are.
+ghost use Rattle.std.specs.Prelude.{◌≡◌, ◌++◌, ◌∷◌, [], ◌<◌, length, IfOk, None};
 ghost use Rattle.seq_inst.specs.Members.{members};
 ghost use Rattle.seq_core.specs.Mapping.{place_of};
 
-use crate::slots::{Entry, slot_of};
+use crate::words::know_words;
+use indexmap::IndexMap;
 use seq_inst::Group;
 use std::alloc::{AllocError, Global};
 use std::marker::Model;
@@ -13,25 +14,24 @@ use std::marker::Model;
 /// A map from groups to places, with fixed room.
 #[derive(Drop)]
 pub struct Places {
-    entries: Vec<Entry>,
-    order: Vec<u32>,
+    /// The place of each group by its words, in the order of adding.
+    places: IndexMap<[u64; 8], u32>,
     room: u32,
 }
 
 impl Model for Places {
-    ghost use Rattle.std.specs.Prelude.{◌≤◌, length, vec_capacity};
-    ghost use Rattle.seq_core.specs.Mapping.{Mapping};
-    ghost use Rattle.seq_core.specs.Ordered.{placed_from, IsOrdered};
+    ghost use Rattle.std.specs.Prelude.{◌+◌, ◌≤◌, length};
+    ghost use Rattle.indexmap.specs.IndexMap.{keys, spare};
+    ghost use Rattle.seq_core.specs.Words.{AreWords};
+    ghost use Rattle.seq_core.specs.Mapping.{Mapping, placed_from};
 
     ghost Value = { Mapping };
 
-    ghost view = { λ m. record { room = m.room; placed = placed_from m.entries.items } };
+    ghost view = { λ m. record { room = m.room; placed = placed_from m.places.entries } };
 
     ghost invariant = { λ m. record {
-      ordered : IsOrdered m.entries.items m.order.items;
-      few : length m.entries.items ≤ m.room;
-      entries_room : m.room ≤ vec_capacity m.entries;
-      order_room : m.room ≤ vec_capacity m.order;
+      words : AreWords (keys m.places);
+      room_left : m.room ≤ length m.places.entries + spare m.places;
     } };
 }
 
@@ -40,13 +40,8 @@ impl Places {
     pub fn new(alloc: Global, room: u32) -> Result<Places, AllocError>
         ensures { IfOk result (λ m. m ≡ record { room = room; placed = [] }) }
     {
-        let entries = Vec::with_capacity(alloc, room as usize)?;
-        let order = Vec::with_capacity(alloc, room as usize)?;
-        Ok(Places {
-            entries,
-            order,
-            room,
-        })
+        let places = IndexMap::with_capacity(alloc, room as usize)?;
+        Ok(Places { places, room })
     }
 
     /// How many groups there may be.
@@ -56,15 +51,12 @@ impl Places {
         self.room
     }
 
-    /// The place of the group, or None where the group is not there. It takes as many comparisons as
-    /// the number of groups has bits.
+    /// The place of the group, or None where the group is not there.
     pub fn find(&self, group: &Group) -> Option<u32>
         ensures { result ≡ place_of self.now.placed (members group.now) }
     {
-        match slot_of(self.entries.as_slice(), self.order.as_slice(), group) {
-            Ok(slot) => Some(self.entries[self.order[slot] as usize].place),
-            Err(_) => None,
-        }
+        know_words(group);
+        self.places.get(&group.0).copied()
     }
 
     /// Adds the group with this place, and nothing else. It takes no memory.
@@ -73,17 +65,7 @@ impl Places {
         requires room { length self.old.placed < self.old.room }
         ensures { self.new ≡ record { room = self.old.room; placed = self.old.placed ++ record { group = members group.now; place = place } ∷ [] } }
     {
-        let number = self.entries.len() as u32;
-        match slot_of(self.entries.as_slice(), self.order.as_slice(), group) {
-            Ok(_) => unreachable!(),
-            Err(slot) => {
-                let entry = Entry {
-                    group: *group,
-                    place,
-                };
-                let _ = self.entries.push(entry);
-                let _ = self.order.insert(slot, number);
-            }
-        }
+        know_words(group);
+        let _ = self.places.insert(group.0, place);
     }
 }
