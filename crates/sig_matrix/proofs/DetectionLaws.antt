@@ -1,12 +1,13 @@
 -- Common signals, and the tests that are taken.
-use Rattle.std.proofs.Common.{◌≡◌, ℕ, zero, suc, ◌+◌, ◌<◌, ◌^◌, List, [], ◌∷◌, ◌++◌, map, take, length, get_or, refl, sym, ap, ◌∙◌, arith, subst, inl, inr, add-one}
+use Rattle.std.proofs.Common.{◌≡◌, ◌≢◌, ℕ, zero, suc, ◌+◌, ◌<◌, ◌^◌, List, [], ◌∷◌, ◌++◌, map, take, length, get_or, refl, sym, ap, ◌∙◌, arith, subst, inl, inr, add-one, w64}
 use Rattle.std.specs.Prelude.{Bool, true, false, IsTrue, ◌↔◌, MatchBool, not, bit_and, nat_eq}
 use Rattle.std.specs.List.{AllZip}
 use Rattle.std.proofs.Math.Seq.{take-suc}
-use Rattle.std.proofs.lemmas.Bool.{cases_lt, true≢false, false≢true, eqb-true, eq-eqb}
+use Rattle.std.proofs.lemmas.Bool.{cases_lt, true≢false, false≢true, eqb-true, eq-eqb, ne_eqb}
 use Rattle.std.proofs.lemmas.List.{map-append}
-use Rattle.std.proofs.lemmas.Nat.Bits.{bit_at_and, bit_at_above, bit_at-zero, bit_at-lt}
-use Rattle.std.specs.Int.{bit_at}
+use Rattle.std.proofs.lemmas.Nat.Bits.{bit_at_and, bit_at_above, bit_at-zero, bit_at-lt, bit_at-trailing_zeros}
+use Rattle.std.proofs.lemmas.Nat.{and_le_l}
+use Rattle.std.specs.Int.{bit_at, trailing_zeros}
 use Rattle.sig_types.specs.Sets.{has_bit}
 use Rattle.sig_flat.specs.declared.flat.Flat.{Flat}
 use Rattle.sig_flat.specs.declared.flat.Fault.{Fault}
@@ -44,6 +45,24 @@ common-both a b s h k =
     let one = eqb-true (bit_at a s) 1 h in
     let two = eqb-true (bit_at b s) 1 k in
     eq-eqb (bit_at (bit_and a b) s) 1 (omega arith)
+
+-- two words have a number in common exactly where their common word is not 0
+pub any-in_common : (signals word : ℕ) (P : ℕ → Type 0) → signals < 2 ^ 64 → ((s : ℕ) → s < 64 → (has_bit word s ≡ true) ↔ P s) → IsTrue (not (nat_eq (bit_and signals word) 0)) ↔ ((s : ℕ) × (has_bit signals s ≡ true) × P s)
+any-in_common signals word P fits exact = (some, λ (s, has, p). any s has p)
+  where
+    some : IsTrue (not (nat_eq (bit_and signals word) 0)) → (s : ℕ) × (has_bit signals s ≡ true) × P s
+    some t =
+        let ne : bit_and signals word ≢ 0 = λ e. false≢true (sym (ap (λ w. not (nat_eq w 0)) e) ∙ t) in
+        let le = and_le_l signals word in
+        let (small, one, lowest) = bit_at-trailing_zeros w64 (bit_and signals word) (omega arith) (omega arith) in
+        let s = trailing_zeros w64 (bit_and signals word) in
+        let has = eq-eqb (bit_at (bit_and signals word) s) 1 one in
+        (s, common-first signals word s has, (exact s small).0 (common-second signals word s has))
+
+    any : (s : ℕ) → has_bit signals s ≡ true → P s → IsTrue (not (nat_eq (bit_and signals word) 0))
+    any s has p =
+        let both = common-both signals word s has ((exact s (signal-small signals s fits has)).1 p) in
+        ap not (ne_eqb (bit_and signals word) 0 (λ e. true≢false (sym both ∙ ap (λ w. has_bit w s) e ∙ ap (λ n. nat_eq n 1) (bit_at-zero s))))
 
 -- a functional fault is detected exactly where a path for a common signal leads to the test
 pub detected-any : (flat : Flat) (fault : Fault) (test : FlatTest) (mode : ℕ) (result : Bool) → fault.general ≡ false → mode ≡ test.mode
@@ -100,10 +119,3 @@ faults-next faults rows i list row lf lr h e is same = (
   subst (λ l. AllZip IsRowOf l (list ++ row ∷ [])) (sym (take-next faults i no_fault lf)) (AllZip-last IsRowOf (take i faults) list (get_or faults i no_fault) row h is),
   map-append (λ (f : FaultRow). f.row) list (row ∷ []) ∙ ap (λ l. l ++ row.row ∷ []) e ∙ ap (λ r. take i rows ++ r ∷ []) same ∙ sym (take-next rows i [] lr),
 )
-
--- none so far, and not this one
-pub none-next : (signals n : ℕ) (P : ℕ → Type 0) → ((s : ℕ) → s < n → has_bit signals s ≡ true → P s → ⊥) → (has_bit signals n ≡ true → P n → ⊥) → (s : ℕ) → s < n + 1 → has_bit signals s ≡ true → P s → ⊥
-none-next signals n P before here s lt has p = elim (cases_lt s n) [
-  | inl below ↦ before s below has p
-  | inr ge ↦ (let e : s ≡ n = omega arith in here (subst (λ k. has_bit signals k ≡ true) e has) (subst P e p))
-]

@@ -1,7 +1,7 @@
 //! Whether one test detects one fault.
 //!
 //! A general fault is seen along free paths. A functional one needs a signal that is both the fault's and the test's, and
-//! a path for it: the common signals are one `and` of two words, and only for these is a path asked for.
+//! a path for it: the common signals are one `and` of two words, and those of them that come through are one more.
 
 ghost use Rattle.std.specs.Prelude.{◌≡◌, ℕ, ◌<◌, ◌↔◌, true, length, IsTrue};
 ghost use Rattle.sig_types.specs.Sets.{has_bit};
@@ -18,12 +18,7 @@ fn carries_any(reach: &Reach, from: u32, signals: u64, to: u32) -> bool
     requires to { HasTest reach.now.flat to }
     ensures { IsTrue result ↔ ((s : ℕ) × (has_bit signals s ≡ true) × HasSignalPath reach.now.flat reach.now.mode s from to) }
 {
-    for signal in 0..64 {
-        if (signals >> signal) & 1 == 1 && reach.carries(from, signal, to) {
-            return true;
-        }
-    }
-    false
+    signals & reach.carried(from, to) != 0
 }
 
 /// Whether the test, made in the mode of the reach, detects the fault.
