@@ -26,7 +26,7 @@ use Rattle.seq_huff.proofs.GreedyCode.{greedy-small}
 use Rattle.seq_core.specs.RowsOf.{row_of, rows_of, place_in}
 use Rattle.seq_core.specs.Changes.{new_row}
 use Rattle.seq_core.specs.Settled.{groups_in, value_or, AreGroups, settled_row, settled_rows, first_row, row_at, size_at, MaySettle, AreSettling, AreDoneBelow}
-use Rattle.seq_core.proofs.TableLaws.{place-found, place-absent, row-among, found-entered}
+use Rattle.seq_core.proofs.TableLaws.{cases_place, place-found, place-absent, row-among, found-entered}
 use Rattle.seq_core.proofs.EventLaws.{sound_are_groups}
 
 pub same-groups : (xs ys : List Row) → length xs ≡ length ys → ((k : ℕ) → k < length ys → (row_at xs k).group ≡ (row_at ys k).group) → groups_in xs ≡ groups_in ys
@@ -87,10 +87,6 @@ pub value-at : (inst : Instance) (rows : List Row) (k : ℕ) → AreGroups (prob
 value-at inst rows k a lt =
     let g = group-at (problem_of inst) rows k a lt in
     entered-value inst (groups_in rows) (row_at rows k).group g.within g.goals g.entered
-
-cases_place : (o : Option ℕ) → (o ≡ None) ⊎ ((k : ℕ) × (o ≡ Some k))
-cases_place None = inl refl
-cases_place (Some k) = inr (k, refl)
 
 module _ (inst : Instance) (rows now : List Row) (isDone : ℕ → Type 0) (s : AreSettling (problem_of inst) rows now isDone) (size : ℕ) (below : AreDoneBelow rows isDone size) where
   groups-same : groups_in now ≡ groups_in rows

@@ -1,6 +1,6 @@
 -- A test whose estimate is not below a sum that is known needs no sum of its own: its estimate is at most its sum over the bounds of
 -- its parts, what a part counts for a low is never below its bound, and neither is what it counts for an up.
-use Rattle.std.proofs.Common.{◌≡◌, ◌⊎◌, ℕ, ◌+◌, ◌*◌, ◌<◌, ◌≤◌, min, List, [], ◌∷◌, get_or, refl, sym, ap, ◌∙◌, arith, inl, inr, subst, Option, Some, None}
+use Rattle.std.proofs.Common.{◌≡◌, ℕ, ◌+◌, ◌*◌, ◌<◌, ◌≤◌, min, List, [], ◌∷◌, get_or, refl, sym, ap, ◌∙◌, arith, inl, inr, subst, Option, Some, None}
 use Rattle.std.specs.Prelude.{Bool, true, false, cond, map, nat_eq}
 use Rattle.std.proofs.lemmas.Bool.{cases_Bool, cases_lt}
 use Rattle.seq_theory.specs.Problem.{Problem, IsIn, pass_part, fail_part, splits, splitting, weight_of, is_end, least_of}
@@ -14,11 +14,7 @@ use Rattle.seq_theory.proofs.ValLaws.{sum_with-parts}
 use Rattle.seq_inst.specs.declared.outcome.Row.{Row}
 use Rattle.seq_core.specs.RowsOf.{row_of, rows_of, place_in, AreFit}
 use Rattle.seq_core.specs.Sums.{lesser, capped_value, IsSumOf}
-use Rattle.seq_core.proofs.TableLaws.{no_row, place-found, place-absent, row-among, known_up-found, known_up-absent}
-
-cases_place : (o : Option ℕ) → (o ≡ None) ⊎ ((k : ℕ) × (o ≡ Some k))
-cases_place None = inl refl
-cases_place (Some k) = inr (k, refl)
+use Rattle.seq_core.proofs.TableLaws.{cases_place, no_row, place-found, place-absent, row-among, known_up-found, known_up-absent}
 
 module _ (p : Problem) (rows : List Row) where
   -- ---- lows ----

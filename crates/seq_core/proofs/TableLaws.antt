@@ -63,6 +63,10 @@ find-place rows placed g o e f = f ∙ ap (λ l. place_of l g) e ∙ numbered-pl
 
 -- ---- a place leads to its row ----
 
+pub cases_place : (o : Option ℕ) → (o ≡ None) ⊎ ((k : ℕ) × (o ≡ Some k))
+cases_place None = inl refl
+cases_place (Some k) = inr (k, refl)
+
 pub record Found (rows : List Row) (g : List ℕ) (k : ℕ) : Type 0 where
   pub there : k < length rows
   pub same : g ≡ members (get_or rows k no_row).group

@@ -51,7 +51,7 @@ fn by_size(alloc: Global, sizes: &[u32]) -> Result<Vec<u32>, AllocError>
     let Ok(count) = u32::try_from(sizes.len()) else {
         return Err(AllocError);
     };
-    let mut places = Vec::new(alloc);
+    let mut places = Vec::with_capacity(alloc, sizes.len())?;
     for place in 0..count {
         places.push(place)?;
     }
