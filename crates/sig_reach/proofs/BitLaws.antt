@@ -1,6 +1,6 @@
 -- The bits of words that are taken together.
-use Rattle.std.proofs.Common.{◌≡◌, ℕ, ◌-◌, ◌^◌, ◌<◌, bit_and, bit_or, min, sym, ap, ◌∙◌, arith, inl, inr, w64}
-use Rattle.std.specs.Prelude.{true, false, nat_eq}
+use Rattle.std.proofs.Common.{◌≡◌, ℕ, ◌-◌, ◌^◌, ◌<◌, bit_and, bit_or, min, sym, ap, ◌∙◌, arith, ◌⊎◌, inl, inr, w64}
+use Rattle.std.specs.Prelude.{true, false}
 use Rattle.std.specs.Int.{bit_at, bit_not}
 use Rattle.std.proofs.lemmas.Bool.{cases_lt, eqb-true, eqb-false, eq-eqb, ne_eqb}
 use Rattle.std.proofs.lemmas.Nat.{le_or_l, and_le_l}
@@ -37,18 +37,23 @@ module _ (a b s : ℕ) (fits : b < 2 ^ 64) (small : s < 64) where
   pub left-has : has_bit a s ≡ true → has_bit b s ≡ false → has_bit (bit_and a (bit_not w64 b)) s ≡ true
   left-has h l = let e = and_not-at in let one = bit-has a s h in let none = bit-lacks b s l in has-bit (bit_and a (bit_not w64 b)) s (omega arith)
 
-  pub left-stopped : has_bit b s ≡ true → has_bit (bit_and a (bit_not w64 b)) s ≡ false
-  left-stopped h = let e = and_not-at in let one = bit-has b s h in lacks-bit (bit_and a (bit_not w64 b)) s (omega arith)
-
-  pub left-lacks : has_bit a s ≡ false → has_bit (bit_and a (bit_not w64 b)) s ≡ false
-  left-lacks l = let e = and_not-at in let none = bit-lacks a s l in lacks-bit (bit_and a (bit_not w64 b)) s (omega arith)
+  pub left-of : has_bit (bit_and a (bit_not w64 b)) s ≡ true → (has_bit a s ≡ true) × (has_bit b s ≡ false)
+  left-of h = let e = and_not-at in let one = bit-has (bit_and a (bit_not w64 b)) s h in let la = bit_at-lt a s in let lb = bit_at-lt b s in (has-bit a s (omega arith), lacks-bit b s (omega arith))
 
 -- what is put into a word
 pub put-has : (a b s : ℕ) → has_bit b s ≡ true → has_bit (bit_or a b) s ≡ true
 put-has a b s h = let e = bit_at_or a b s in let one = bit-has b s h in let small = bit_at-lt a s in has-bit (bit_or a b) s (omega arith)
 
-pub put-lacks : (a b s : ℕ) → has_bit b s ≡ false → has_bit (bit_or a b) s ≡ has_bit a s
-put-lacks a b s l = let e = bit_at_or a b s in let none = bit-lacks b s l in ap (λ n. nat_eq n 1) (let same : bit_at (bit_or a b) s ≡ bit_at a s = omega arith in same)
+pub put-keeps : (a b s : ℕ) → has_bit a s ≡ true → has_bit (bit_or a b) s ≡ true
+put-keeps a b s h = let e = bit_at_or a b s in let one = bit-has a s h in let small = bit_at-lt b s in has-bit (bit_or a b) s (omega arith)
+
+pub put-only : (a b s : ℕ) → has_bit (bit_or a b) s ≡ true → (has_bit a s ≡ true) ⊎ (has_bit b s ≡ true)
+put-only a b s h =
+    let e = bit_at_or a b s in
+    let one = bit-has (bit_or a b) s h in
+    let sa = bit_at-lt a s in
+    let sb = bit_at-lt b s in
+    elim (cases_lt (bit_at a s) 1) [ inl lt ↦ inr (has-bit b s (omega arith)) | inr ge ↦ inl (has-bit a s (omega arith)) ]
 
 -- a word into which something new is put grows
 pub put-grows : (a b : ℕ) → a < 2 ^ 64 → b < 2 ^ 64 → (bit_and b (bit_not w64 a) ≡ 0 → ⊥) → a < bit_or a (bit_and b (bit_not w64 a))
