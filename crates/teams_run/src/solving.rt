@@ -14,10 +14,10 @@ ghost use Rattle.teams_run.specs.Solved.{IsSolution, Stands, IsLimit};
 
 use crate::preparing::Prepared;
 use seq_cert::report_of;
-use seq_finish::{finish_by, outcomes_hold};
+use seq_finish::outcomes_hold;
 use seq_inst::{Instance, Outcome, Verdict};
 use seq_shown::{outcomes_print, reports_hold};
-use seq_solo::{Found, solve_alone};
+use seq_solo::outcome_alone;
 use seq_theory::{classes_hold, has_least, passage_holds};
 use sig_matrix::Matrix;
 use std::alloc::{AllocError, Global};
@@ -42,19 +42,6 @@ fn outcome_stands(matrix: &Matrix, inst: &Instance, outcome: &Outcome, groups: u
     outcomes_hold();
 }
 
-/// The outcome of a search of one thread that may enter so many groups.
-fn outcome_of(alloc: Global, inst: &Instance, groups: u32) -> Result<Outcome, AllocError>
-    requires { IsLimit groups }
-    ensures { IfOk result (IsRightOutcome (problem_of inst.now) groups) }
-{
-    let Found {
-        rows,
-        missed,
-        numbers,
-    } = solve_alone(alloc, inst, groups)?;
-    finish_by(alloc, inst, numbers, groups, rows, missed)
-}
-
 /// The report of a strategy for the system of the matrix.
 pub fn solution_of(
     alloc: Global,
@@ -69,7 +56,7 @@ pub fn solution_of(
     requires limit { IsLimit groups }
     ensures { IfOk result (λ s. IsSolution (system_of matrix.now) (labels_from matrix.now mode.now) groups s.verdict s.text.items) }
 {
-    let outcome = outcome_of(alloc, &prepared.inst, groups)?;
+    let outcome = outcome_alone(alloc, &prepared.inst, groups)?;
     outcome_stands(matrix, &prepared.inst, &outcome, groups);
     reports_hold();
     outcomes_print();

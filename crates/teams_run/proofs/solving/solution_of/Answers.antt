@@ -27,11 +27,11 @@ returns c =
       problem = p;
       classes = c.requires.prepared.classes;
       outcome = c.in_ok-outcome.outcome;
-      right = c.in_ok-outcome.ensures;
+      right = c.in_ok-outcome.ensures.right;
       stands = c.outcome_stands.ensures;
       verdict_is = refl;
       report = c.in_ok-text.ensures.text ∙ ap (λ l. report_bytes (report_from p c.in_ok-outcome.outcome l)) c.requires.prepared.labels;
       accepted =
-          c.reports_hold.ensures p labels c.args.groups o (weighed c.args.prepared.now.inst) valid.told c.in_ok-outcome.ensures
-          (form (c.outcomes_print.ensures.printable p labels c.args.groups o valid.told (valid.some, valid.few) c.requires.limit c.requires.printable c.in_ok-outcome.ensures));
+          c.reports_hold.ensures p labels c.args.groups o (weighed c.args.prepared.now.inst) valid.told c.in_ok-outcome.ensures.right
+          (form (c.outcomes_print.ensures.printable p labels c.args.groups o valid.told (valid.some, valid.few) c.requires.limit c.requires.printable c.in_ok-outcome.ensures.right));
     }
