@@ -1,7 +1,7 @@
 //! Looks for tests that wait though both of their parts have an up, as those were entered by way of
-//! other tests. Such a test counts for the group's up, so it is evaluated. When a group is entered all
-//! tests that wait are looked at; later those alone that make a part that was entered since the last
-//! look, unless there are many.
+//! other tests. Such a test counts for the group's up, so it is evaluated. When a group is entered, and
+//! when its row is settled, all tests that wait are looked at; between these those alone that make a part
+//! that was entered since the last look, unless there are many.
 ghost use Rattle.std.specs.Prelude.{◌≡◌, ◌<◌, length, is_some, vec_len, Contains, IfOk};
 ghost use Rattle.seq_theory.specs.Graph.{step_value};
 ghost use Rattle.seq_theory.specs.Rows.{known_up};

@@ -1,9 +1,9 @@
 //! The best bounds that the entered groups of a search give it. The walk raises and caps a row only when
-//! it comes through, so at its end many a row is behind what the others allow. Here the rows are gone
-//! through once more, from the smallest groups on: a group's parts have fewer classes than it has, so when
-//! its turn comes theirs are final. What the walk left out or leaves waiting can't lead lower, but for the
-//! tests of which both parts have an up by now, so these are evaluated first. All sums are looked up by
-//! number, and so a settled search costs a fraction of settling the same rows afresh.
+//! it comes through, so at its end some rows are behind what the others allow. Here each has one more
+//! turn, from the smallest groups on: a group's parts have fewer classes than it has, so when its turn
+//! comes theirs are final. A test that the walk left out gives no less than the row's up, and one that
+//! waits counts for the up only where both of its parts have one; so these are evaluated, and no others.
+//! All sums are looked up by number, which costs less than half of settling the same rows afresh.
 ghost use Rattle.std.specs.Prelude.{◌≡◌, ◌<◌, length, slice_set, IfOk};
 ghost use Rattle.seq_inst.specs.Instances.{problem_of};
 ghost use Rattle.seq_core.specs.Settled.{groups_in, size_at, settled_row, settled_rows};

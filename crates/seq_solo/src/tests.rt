@@ -50,6 +50,22 @@ fn two_halves(alloc: Global) -> Result<Instance, AllocError> {
     Ok(Instance::new(weights, costs, passes))
 }
 
+/// Six faults and no good state. The tests part the faults across each other, so that one group is a part
+/// of several.
+fn crossed(alloc: Global) -> Result<Instance, AllocError> {
+    let weights = vec![in alloc; 3, 4, 2, 1, 4, 3]?;
+    let costs = vec![in alloc; 3, 2, 1, 2, 3, 1]?;
+    let passes = vec![in alloc;
+        Group([47, 0, 0, 0, 0, 0, 0, 0]),
+        Group([52, 0, 0, 0, 0, 0, 0, 0]),
+        Group([12, 0, 0, 0, 0, 0, 0, 0]),
+        Group([32, 0, 0, 0, 0, 0, 0, 0]),
+        Group([33, 0, 0, 0, 0, 0, 0, 0]),
+        Group([55, 0, 0, 0, 0, 0, 0, 0]),
+    ]?;
+    Ok(Instance::new(weights, costs, passes))
+}
+
 /// One class and no test.
 fn one_class(alloc: Global) -> Result<Instance, AllocError> {
     let weights = vec![in alloc; 6]?;
@@ -118,20 +134,31 @@ fn two_halves_within_two_groups(rt: HostRuntime) -> Result<(), Fail> {
     Ok(())
 }
 
-/// A search settles its own rows to what `finish` settles the walk's rows to.
+/// The walk meets its limit with rows that are behind what they allow together. Settled they show the
+/// least cost, whether the search settles them or `finish` does.
 #[test]
-fn a_search_settles_as_finish_does(rt: HostRuntime) -> Result<(), Fail> {
+fn crossed_within_seven_groups(rt: HostRuntime) -> Result<(), Fail> {
     let alloc = rt.alloc();
-    let inst = two_halves(alloc)?;
+    let inst = crossed(alloc)?;
     let Found { rows, missed } = solve_alone(alloc, &inst, 7)?;
-    let afresh = finish(alloc, &inst, 7, rows, missed)?;
+    assert!(rt; missed.is_some());
     let outcome = outcome_alone(alloc, &inst, 7)?;
-    assert_eq!(rt; outcome.verdict, afresh.verdict);
-    assert_eq!(rt; outcome.cost, afresh.cost);
-    assert_eq!(rt; outcome.low, afresh.low);
-    assert!(rt; outcome.missed == afresh.missed);
-    assert_eq!(rt; outcome.rows.len(), afresh.rows.len());
-    for (row, other) in outcome.rows.iter().zip(afresh.rows.iter()) {
+    assert_eq!(rt; outcome.verdict, Verdict::Optimal);
+    assert!(rt; outcome.missed.is_none());
+    let mut low_behind = false;
+    let mut up_behind = false;
+    for (walked, settled) in rows.iter().zip(outcome.rows.iter()) {
+        assert!(rt; walked.group == settled.group);
+        low_behind = low_behind || walked.low < settled.low;
+        up_behind = up_behind || walked.up > settled.up;
+    }
+    assert!(rt; low_behind);
+    assert!(rt; up_behind);
+    let afresh = finish(alloc, &inst, 7, rows, missed)?;
+    assert_eq!(rt; afresh.verdict, Verdict::Optimal);
+    assert_eq!(rt; afresh.cost, outcome.cost);
+    assert_eq!(rt; afresh.rows.len(), outcome.rows.len());
+    for (row, other) in afresh.rows.iter().zip(outcome.rows.iter()) {
         assert!(rt; row.group == other.group);
         assert_eq!(rt; row.low, other.low);
         assert_eq!(rt; row.up, other.up);
