@@ -38,4 +38,4 @@ returns-in_ok-write_tree-in-Ask-2 t c =
     ap tree_of c.in-Ask.is ∙ ap (λ (x : Tree). ask c.in-Ask.test x (tree_of c.in-Ask.fail.value)) (ap tree_of (sym c.deref.ensures)) ∙ ap (λ (x : Tree). ask c.in-Ask.test pass x) (ap tree_of (sym c.deref-in-Ask.ensures)) in
     let start = lines_after _ _ _ _ _ c.in_ok-write_ask-in-Ask.ensures c.in_ok-write_tree-in-Ask.ensures in
     let all = lines_after _ _ _ _ _ start c.in_ok-write_tree-in-Ask-2.ensures in
-    all ∙ ap (with_lines c.args.out.now) (ask_lines p c.in-Ask.test pass fail (tree_of c.args.strategy.now) (members c.args.group.now) (members c.part.result) (members c.part-in-Ask.result) is c.part.ensures c.part-in-Ask.ensures)
+    all ∙ ap (with_lines c.args.out.now) (ask_lines p c.in-Ask.test pass fail (tree_of c.args.strategy.now) (members c.args.group.now) (members c.part.result) (members c.part-in-Ask.result) is c.part.ensures.classes c.part-in-Ask.ensures.classes)
