@@ -140,7 +140,7 @@ fn steps(alloc: Global, n: u32) -> Result<List<Link>, AllocError>
 }
 
 /// Adds the links to the points.
-#[tactic(auto, using(crate::proofs::NameLaws::one_more))]
+#[tactic(auto, using(crate::proofs::NameLaws::one_more_behind))]
 fn with_taps(alloc: Global, links: List<Link>, n: u32) -> Result<List<Link>, AllocError>
     requires { n ≤ 100 }
     ensures { IfOk result (λ l. l ≡ links ++ map tap (range_with_len 1 n)) }
