@@ -7,12 +7,11 @@ use Rattle.seq_theory.specs.Bound.{bound, step_sum}
 use Rattle.seq_theory.specs.Greedy.{first_least, greedy_test, greedy, greedy_cost}
 use Rattle.seq_theory.proofs.LeastOfLaws.{first_least-last}
 use Rattle.seq_theory.proofs.GreedyLaws.{greedy_test_splits, greedy-end, greedy-more, part-within, greedy-cheap}
+use Rattle.seq_theory.proofs.BelowLaws.{length-passing}
 use Rattle.seq_inst.specs.declared.group.Group.{Group}
 use Rattle.seq_inst.specs.declared.instance.Instance.{Instance}
-use Rattle.seq_inst.specs.Members.{members}
+use Rattle.seq_inst.specs.Members.{members, has_class}
 use Rattle.seq_inst.specs.Instances.{problem_of}
-use Rattle.seq_inst.proofs.MembersLaws.{length-members_below}
-use Rattle.seq_inst.proofs.WithinLaws.{light}
 use Rattle.seq_huff.proofs.BoundFits.{product-le}
 use Rattle.seq_theory.proofs.PartsRecursion.{splitting-splits, splitting-there}
 use Rattle.seq_theory.proofs.GroupLaws.{pass_part_smaller, fail_part_smaller}
@@ -114,7 +113,7 @@ pub greedy-small : (inst : Instance) (g : Group) → IsWithin (problem_of inst) 
 greedy-small inst g within =
     let p = problem_of inst in
     let f = greedy-cheap p 1000000 (members g) (λ t lt. (inst.valid.costs t lt).1) inst.valid.told within in
-    let w = light inst g within in
-    let l = length-members_below g 512 in
+    let w = inst.stands.light g within in
+    let l = length-passing (has_class g) 512 in
     let m = product-le (weight_of p (members g)) (length (members g) * 1000000) 4097000000 512000000 w (omega arith) in
     omega arith

@@ -9,17 +9,16 @@ use Rattle.seq_theory.specs.Greedy.{greedy, greedy_test, greedy_cost}
 use Rattle.seq_theory.proofs.GreedyLaws.{greedy_test_splits, greedy-end, greedy-more, part-within}
 use Rattle.seq_theory.proofs.GroupLaws.{pass_part_smaller, fail_part_smaller}
 use Rattle.seq_theory.proofs.PartsRecursion.{splitting-splits}
+use Rattle.seq_theory.proofs.BelowLaws.{length-passing, passing-within}
+use Rattle.seq_theory.proofs.ShapeLaws.{leaves-le, height-lt-leaves}
 use Rattle.seq_inst.specs.declared.group.Group.{Group}
 use Rattle.seq_inst.specs.declared.instance.Instance.{Instance}
 use Rattle.seq_inst.specs.declared.strategy.Strategy.{Strategy}
 use Rattle.seq_inst.specs.Instances.{problem_of}
 use Rattle.seq_inst.specs.Trees.{tree_of}
-use Rattle.seq_inst.specs.Members.{members}
+use Rattle.seq_inst.specs.Members.{members, has_class}
 use Rattle.seq_inst.specs.Shapes.{height, leaf_count, AsksSplitting}
-use Rattle.seq_inst.proofs.MembersLaws.{length-members_below}
-use Rattle.seq_inst.proofs.PartsLaws.{members-within}
 use Rattle.seq_huff.proofs.LeastBounds.{greedy-right}
-use Rattle.seq_inst.proofs.ShapeLaws.{leaves-le, height-lt-leaves}
 
 module _ (p : Problem) where
   splitting-step : (group : List ℕ) → AreTold p → IsWithin p group → ((part : List ℕ) → length part < length group → IsWithin p part → AsksSplitting p (greedy p part) part) → AsksSplitting p (greedy p group) group
@@ -54,8 +53,8 @@ greedy-leaves inst g tree within is = go (members g) refl
     go (x ∷ xs) e =
         let some = ap length e in
         let f = leaves-le (problem_of inst) tree (members g) (greedy-splitting (problem_of inst) (members g) tree inst.valid.told within is) (omega arith) in
-        let all = ap length (members-within (problem_of inst) g inst.valid.few within) in
-        let few = length-members_below g (length inst.weights.items) in
+        let all = ap length (passing-within (problem_of inst) (has_class g) 512 inst.valid.few within) in
+        let few = length-passing (has_class g) (length inst.weights.items) in
         omega arith
 
 pub greedy-short : (inst : Instance) (g : Group) (tree : Tree) → IsWithin (problem_of inst) (members g) → tree ≡ greedy (problem_of inst) (members g) → height tree ≤ 512

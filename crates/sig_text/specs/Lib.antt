@@ -1,5 +1,4 @@
 pub mod Document
-pub mod Places
 pub mod Keys
 pub mod Reading
 pub mod Values

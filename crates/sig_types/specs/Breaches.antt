@@ -15,31 +15,35 @@ use Rattle.sig_types.specs.declared.refusals.Refusal.{Refusal}
 use Rattle.sig_types.specs.declared.refusals.Code.{Code}
 use Rattle.sig_types.specs.declared.refusals.Code.TheVariants.{M07, M08, M10, M11, M12, M13}
 use Rattle.sig_types.specs.declared.refusals.Place.{Place}
-use Rattle.sig_types.specs.declared.refusals.Place.TheVariants.{Count, In}
+use Rattle.sig_types.specs.declared.refusals.Place.TheVariants.{Count}
 use Rattle.sig_types.specs.declared.refusals.Counted.{Counted}
 use Rattle.sig_types.specs.declared.refusals.Counted.TheVariants.{Signals as ManySignals, Modes as ManyModes, Blocks as ManyBlocks}
 use Rattle.sig_types.specs.declared.refusals.Kind.{Kind}
 use Rattle.sig_types.specs.declared.refusals.Kind.TheVariants.{Part as PartKind, Use as UseKind, Point as PointKind, Link as LinkKind}
 use Rattle.sig_types.specs.declared.refusals.Key.{Key}
+use Rattle.sig_types.specs.Spots.{block_at, document_spot, item_at, place_of, test_at}
 use Rattle.sig_types.specs.declared.refusals.Key.TheVariants.{Signals, Modes, Top, Name, Ports, Switches, Stops, Block as BlockKey, Mode, From, To}
 
 -- places
 
 abbrev pub in_document : Key → Option ℕ → Place
-in_document key element = In None None None (Some key) element
+in_document key element = place_of (record document_spot { key = Some key; element = element })
 
 abbrev pub in_block : ℕ → Key → Option ℕ → Place
-in_block b key element = In (Some b) None None (Some key) element
+in_block b key element = place_of (record (block_at b) { key = Some key; element = element })
 
 abbrev pub in_item : ℕ → Kind → ℕ → Option Key → Option ℕ → Place
-in_item b kind i key element = In (Some b) (Some (kind, i)) None key element
+in_item b kind i key element = place_of (record (item_at (block_at b) kind i) { key = key; element = element })
 
 abbrev pub in_test : ℕ → ℕ → ℕ → Key → Option ℕ → Place
-in_test b p t key element = In (Some b) (Some (PointKind, p)) (Some t) (Some key) element
+in_test b p t key element = place_of (record (test_at (item_at (block_at b) PointKind p) t) { key = Some key; element = element })
 
--- one breach, where the test holds
+-- one breach, and one where the test holds
+abbrev pub breach : Code → Place → List Refusal
+breach code place = record { code = code; place = place } ∷ []
+
 abbrev pub breach_if : Bool → Code → Place → List Refusal
-breach_if b code place = cond b (record { code = code; place = place } ∷ []) []
+breach_if broken code place = cond broken (breach code place) []
 
 -- what each element of a list adds, with its number
 abbrev pub each_from : {X Y : Type 0} → ℕ → (ℕ → X → List Y) → List X → List Y
@@ -150,7 +154,7 @@ end_of_item model block place first (Some port) =
     ++ breach_if (has_use block first && not (has_port model.blocks (block_of_use block.uses first) port)) M08 place
 
 abbrev pub end_breaches : Model → ℕ → Block → Place → End → List Refusal
-end_breaches model b block place e = cond (has (names_of (scope_of b block)) e.first) (end_of_item model block place e.first e.second) (record { code = M08; place = place } ∷ [])
+end_breaches model b block place e = cond (has (names_of (scope_of b block)) e.first) (end_of_item model block place e.first e.second) (breach M08 place)
 
 -- whether the end is a switch
 abbrev pub is_switch : Block → End → Bool

@@ -17,6 +17,7 @@ use crate::list::List;
 use crate::model::Model;
 use crate::name::Name;
 use crate::refusals::{Code, Counted, Key, ModelFault, Place};
+use crate::spot::Spot;
 use crate::valid::Valid;
 use block::check_blocks;
 use index::{Index, normal};
@@ -44,13 +45,7 @@ fn check_indexed(alloc: Global, index: &Index, model: &Model) -> Result<(), Mode
     ensures { IsVerdict (indexed_breaches model.now) result }
 {
     check_blocks(alloc, index, model.blocks.as_slice())?;
-    let top = Place::In {
-        block: None,
-        item: None,
-        test: None,
-        key: Some(Key::Top),
-        element: None,
-    };
+    let top = Spot::document().at(Key::Top).place();
     refuse_if(index.block_number(&model.top).is_none(), Code::M08, top)
 }
 

@@ -5,11 +5,12 @@ use Rattle.seq_theory.specs.Rows.{AreDistinct}
 use Rattle.seq_inst.specs.Members.{members}
 use Rattle.seq_inst.specs.Instances.{problem_of}
 use Rattle.seq_inst.specs.Trees.{tree_of}
+use Rattle.seq_huff.proofs.LeastBounds.{weighed}
 use Rattle.seq_inst.proofs.RootLaws.{within-all}
 use Rattle.seq_core.specs.Tables.{numbered}
 use Rattle.seq_core.specs.Settled.{groups_in, settled_rows}
 use Rattle.seq_finish.specs.Outcomes.{IsSettled}
-use Rattle.seq_finish.proofs.OutcomeLaws.{settled-all, settled-entered, are-entered, root-valued, outcome-right, outcome-shape, outcome-proper}
+use Rattle.seq_finish.proofs.OutcomeLaws.{settled-all, settled-entered, are-entered, root-valued, outcome-right, outcome-shape, outcome-proper, outcomes_hold}
 use Rattle.seq_finish.proofs.ending.finish_settled.Goals as goal
 
 pub index_of-requires-clause-distinct : goal.index_of-requires-clause-distinct
@@ -116,3 +117,6 @@ returns-clause-short c =
     let items : rows ≡ settled_rows p rows = c.requires.settled in
     let same2 : groups_in c.as_slice-2.result.now ≡ groups_in rows = ap groups_in (c.as_slice-2.ensures.value ∙ items) ∙ settled-entered p rows in
     (outcome-shape c.args.inst.now (groups_in rows) (tree_of c.in_ok-strategy.strategy) c.requires.root (c.in_ok-strategy.ensures.strategy ∙ ap (λ g. strat p g (members c.root-all.result)) same2 ∙ ap (strat p (groups_in rows)) c.root-all.ensures)).short
+
+pub returns-clause-stands : goal.returns-clause-stands
+returns-clause-stands c = λ least l. outcomes_hold (problem_of c.args.inst.now) c.args.limit least _ (weighed c.args.inst.now) c.args.inst.now.valid.told (returns-clause-right c) l
