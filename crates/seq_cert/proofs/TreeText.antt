@@ -9,7 +9,8 @@ use Rattle.seq_inst.specs.Shapes.{height}
 use Rattle.seq_inst.specs.declared.group.Group.{Group}
 use Rattle.seq_inst.proofs.MembersLaws.{members_below-in, members_below-more}
 use Rattle.seq_cert.specs.declared.report.TreeLine.TheVariants.{Ask}
-use Rattle.seq_cert.specs.Text.{Words, tree_words}
+use Rattle.sig_lines.specs.Pieces.{Words}
+use Rattle.seq_cert.specs.Text.{tree_words}
 use Rattle.seq_cert.specs.TreeLines.{tree_lines}
 
 module _ (tests t : ℕ) (pass fail tree : Tree) (is : tree ≡ ask t pass fail) where

@@ -1,10 +1,10 @@
 -- The sums and products of a bound fit a word: a group weighs at most 4,097,000,000, and all costs are at most
 -- 256,000,000 together.
 use Rattle.std.proofs.Common.{◌≡◌, ℕ, zero, suc, ◌+◌, ◌<◌, ◌≤◌, List, [], ◌∷◌, length, refl, sym, ap, ◌∙◌, arith, inl, inr, ◌*◌, ◌^◌, ◌/◌, ◌%◌, get_or, add-one}
-use Rattle.std.proofs.Math.Nat.{mul-le-mul_left, mul-le-mul_right}
+pub use Rattle.seq_theory.proofs.BelowLaws.{product-le}
 use Rattle.std.proofs.lemmas.List.Sums.{sum_by-cons}
 use Rattle.std.specs.Prelude.{true, false, map, min, sum}
-use Rattle.std.proofs.lemmas.Bool.{cases_Bool, cases_lt}
+use Rattle.std.proofs.lemmas.Bool.{cases_lt}
 use Rattle.seq_theory.specs.Problem.{Problem, IsIn, IsWithin, weight_of, is_end, splits, splitting, least_of}
 use Rattle.seq_theory.specs.Huffman.{upward, huff}
 use Rattle.seq_theory.proofs.BoundLeast.{weight-positive, some_class}
@@ -13,13 +13,11 @@ use Rattle.seq_theory.specs.Bound.{goal_weights, sum_first, next_after, bound_fr
 use Rattle.seq_theory.specs.Greedy.{one_step}
 use Rattle.std.specs.Prelude.{max}
 use Rattle.seq_theory.proofs.PartsRecursion.{splitting-there}
+use Rattle.seq_theory.proofs.BelowLaws.{length-passing, passing-all}
 use Rattle.seq_inst.specs.declared.group.Group.{Group}
 use Rattle.seq_inst.specs.declared.instance.Instance.{Instance}
-use Rattle.seq_inst.specs.Members.{members}
+use Rattle.seq_inst.specs.Members.{members, has_class}
 use Rattle.seq_inst.specs.Instances.{problem_of}
-use Rattle.seq_inst.proofs.MembersLaws.{length-members_below}
-use Rattle.seq_inst.proofs.WithinLaws.{light}
-use Rattle.seq_huff.proofs.Written.{passing-all, length-passing}
 
 pub sum-weights : (p : Problem) (xs : List ℕ) → sum (map p.weight xs) ≡ weight_of p xs
 sum-weights p [] = refl
@@ -29,16 +27,13 @@ length-map : (f : ℕ → ℕ) (xs : List ℕ) → length (map f xs) ≡ length 
 length-map f [] = refl
 length-map f (x ∷ xs) = ap suc (length-map f xs)
 
-pub product-le : (a b c d : ℕ) → a ≤ c → b ≤ d → a * b ≤ c * d
-product-le a b c d h1 h2 = let f1 = mul-le-mul_left a h2 in let f2 = mul-le-mul_right d h1 in omega arith
-
 pub weights-fit : (inst : Instance) (g : Group) (out : List ℕ) → IsWithin (problem_of inst) (members g) → out ≡ map (problem_of inst).weight (members g) → length out * sum out < 2 ^ 64
 weights-fit inst g out within e =
     let p = problem_of inst in
     let l1 = ap length e ∙ length-map p.weight (members g) in
-    let l2 = length-members_below g 512 in
+    let l2 = length-passing (has_class g) 512 in
     let s1 = ap sum e ∙ sum-weights p (members g) in
-    let s2 = light inst g within in
+    let s2 = inst.stands.light g within in
     let f = product-le (length out) (sum out) 512 4097000000 (omega arith) (omega arith) in
     omega arith
 
@@ -103,7 +98,7 @@ pub bound-fits : (inst : Instance) (g : Group) (costs : List ℕ) → IsWithin (
 bound-fits inst g costs within e is =
     let p = problem_of inst in
     let ts = splitting p (members g) in
-    let w = light inst g within in
+    let w = inst.stands.light g within in
     let s1 = ap sum is ∙ sum-upward (map p.cost ts) in
     let s2 = sum-map-le p.cost 1000000 ts (λ t i. (inst.valid.costs t (splitting-there p (members g) t i)).1) in
     let l1 = length-passing (splits p (members g)) p.tests in
@@ -148,28 +143,14 @@ bound-end p xs e = rw e refl
 
 -- a bound is small
 pub bound-small : (inst : Instance) (g : Group) → IsWithin (problem_of inst) (members g) → bound (problem_of inst) (members g) ≤ 2097664000000000000
-unfolding bound
-bound-small inst g within =
-    let p = problem_of inst in
-    let xs = members g in
-    elim (cases_Bool (is_end p xs)) [
-      | inl e ↦ rw e (omega arith)
-      | inr e ↦ rw e
-          (let f = bound-fits inst g (splitting_costs p xs) within e refl in
-          let k = huff (goal_weights p xs) / weight_of p xs in
-          let positive = f.positive in
-          let a = f.product k in
-          let lt : huff (goal_weights p xs) % weight_of p xs < weight_of p xs = omega arith in
-          let b = f.rest (huff (goal_weights p xs) % weight_of p xs) k lt in
-          omega arith)
-    ]
+bound-small inst g within = inst.stands.bound_fits g within
 
 -- the sum of a test and the bounds of its parts fits
 pub step-fits : (inst : Instance) (g pass fail : Group) (cost weight a b test : ℕ) → IsWithin (problem_of inst) (members g) → IsWithin (problem_of inst) (members pass) → IsWithin (problem_of inst) (members fail) → test < (problem_of inst).tests → cost ≡ (problem_of inst).cost test → weight ≡ weight_of (problem_of inst) (members g) → a ≡ bound (problem_of inst) (members pass) → b ≡ bound (problem_of inst) (members fail) → (cost * weight ≤ 4097000000000000) × (a ≤ 2097664000000000000) × (b ≤ 2097664000000000000)
 step-fits inst g pass fail cost weight a b test within wp wf there ce we ae be =
     let f1 = bound-small inst pass wp in
     let f2 = bound-small inst fail wf in
-    let l = light inst g within in
+    let l = inst.stands.light g within in
     let c = (inst.valid.costs test there).1 in
     let m = product-le cost weight 1000000 4097000000 (omega arith) (omega arith) in
     (omega arith, omega arith, omega arith)

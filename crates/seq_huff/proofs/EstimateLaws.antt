@@ -16,7 +16,6 @@ use Rattle.seq_inst.specs.declared.group.Group.{Group}
 use Rattle.seq_inst.specs.declared.instance.Instance.{Instance}
 use Rattle.seq_inst.specs.Members.{members}
 use Rattle.seq_inst.specs.Instances.{problem_of}
-use Rattle.seq_inst.proofs.WithinLaws.{light}
 use Rattle.seq_huff.specs.declared.mass.Mass.{Mass}
 use Rattle.seq_huff.specs.declared.estimate.Estimate.{Estimate}
 use Rattle.seq_huff.specs.Potential.{potentials}
@@ -192,7 +191,7 @@ module _ (inst : Instance) (g part : Group) (f : ℕ → Bool) (within : IsWithi
   pub part-mass : (m : Mass) → IsMassOf (problem_of inst) (members part) m → PartMass inst part m
   part-mass m mass =
       let w = weight-positive (problem_of inst) (members part) (weighed inst) part-within part-some in
-      let l = light inst part part-within in
+      let l = inst.stands.light part part-within in
       let e = mass.weight in
       record { some = omega arith; light = omega arith }
 
@@ -274,7 +273,7 @@ pub least-sum : (inst : Instance) (g pass_group fail_group : Group) (test cost w
     → members pass_group ≡ pass_part (problem_of inst) test (members g) → members fail_group ≡ fail_part (problem_of inst) test (members g) → pass ≤ bound (problem_of inst) (members pass_group) → fail ≤ bound (problem_of inst) (members fail_group) → LeastSum inst g test cost weight pass fail
 least-sum inst g pass_group fail_group test cost weight pass fail within there ce we pe fe ple fle =
     let p = problem_of inst in
-    let l = light inst g within in
+    let l = inst.stands.light g within in
     let c = (inst.valid.costs test there).1 in
     let m = product-le cost weight 1000000 4097000000 (omega arith) (omega arith) in
     let e = ap (λ n. n * weight) ce ∙ ap (λ n. p.cost test * n) we in

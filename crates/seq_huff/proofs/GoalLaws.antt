@@ -8,11 +8,12 @@ use Rattle.seq_theory.specs.Bound.{goal_weight, goal_weights}
 use Rattle.seq_theory.proofs.GroupLaws.{IsIn-filter, filter-IsIn, filter_passes, list_any-IsIn}
 use Rattle.seq_theory.proofs.LeastLaws.{count_up-IsIn}
 use Rattle.seq_theory.proofs.PartsRecursion.{map-agree}
+use Rattle.seq_theory.proofs.BelowLaws.{passing-within}
+use Rattle.seq_theory.specs.Below.{passing_below}
 use Rattle.seq_inst.specs.declared.group.Group.{Group}
 use Rattle.seq_inst.specs.declared.instance.Instance.{Instance}
-use Rattle.seq_inst.specs.Members.{has_class, members_below, members}
+use Rattle.seq_inst.specs.Members.{has_class, members}
 use Rattle.seq_inst.specs.Instances.{problem_of}
-use Rattle.seq_inst.proofs.PartsLaws.{members-within}
 
 filter_same : (f g : ℕ → Bool) (xs : List ℕ) → ((c : ℕ) → IsIn c xs → f c ≡ g c) → filter f xs ≡ filter g xs
 filter_same f g [] h = refl
@@ -84,7 +85,7 @@ module _ (inst : Instance) (g : Group) where
       ∙ map-agree (goal_weight (problem_of inst) (filter f (count_up 0 n))) (problem_of inst).weight (filter f (count_up 0 n)) (weights-one f n)
 
   pub goal_weights-members : IsWithin (problem_of inst) (members g) → goal_weights (problem_of inst) (members g) ≡ map (problem_of inst).weight (members g)
-  unfolding members_below
+  unfolding passing_below
   goal_weights-members within =
-      let e = members-within (problem_of inst) g inst.valid.few within in
+      let e = passing-within (problem_of inst) (has_class g) 512 inst.valid.few within in
       subst (λ xs. goal_weights (problem_of inst) xs ≡ map (problem_of inst).weight xs) e (goal_weights-filter (has_class g))

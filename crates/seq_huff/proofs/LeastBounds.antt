@@ -2,7 +2,7 @@
 use Rattle.std.proofs.Common.{◌≡◌, ℕ, ◌≤◌, refl, arith, subst, sym, Option, Some, None}
 use Rattle.std.specs.Prelude.{List}
 use Rattle.seq_theory.specs.Problem.{IsWithin, IsWeighed}
-use Rattle.seq_theory.specs.Tree.{Tree, Solves}
+use Rattle.seq_theory.specs.Tree.{Tree, Solves, IsLeast}
 use Rattle.seq_theory.specs.Bound.{bound}
 use Rattle.seq_theory.specs.Greedy.{one_step, greedy, greedy_cost}
 use Rattle.seq_theory.specs.Huffman.{huff}
@@ -17,17 +17,25 @@ use Rattle.seq_huff.specs.Bounds.{UndercutsTrees, IsAtMostLeast, IsAtLeastLeast,
 use Rattle.seq_huff.specs.Choice.{lesser_number}
 
 pub weighed : (inst : Instance) → IsWeighed (problem_of inst)
-weighed inst = record { positive = inst.valid.positive; goals = λ c lt. lt }
+weighed inst = inst.stands.weighed
 
 pub huffman-undercuts : (weights : List ℕ) (n : ℕ) → n ≡ huff weights → UndercutsTrees weights n
 huffman-undercuts weights n is t same = let f = huffman_is_least weights t same in omega arith
 
+-- what is at most the least cost is at most what each right strategy costs
+at_most-each : (inst : Instance) (group : List ℕ) (n : ℕ) → IsWithin (problem_of inst) group → ((least : ℕ) → IsLeast (problem_of inst) group least → n ≤ least) → IsAtMostLeast (problem_of inst) group n
+at_most-each inst group n within le tree s =
+    let some = has_least (problem_of inst) group inst.valid.told within in
+    let a = le some.0 some.1 in
+    let b = some.1.least tree s in
+    omega arith
+
 pub bound-low : (inst : Instance) (group : List ℕ) (n : ℕ) → IsWithin (problem_of inst) group → n ≡ bound (problem_of inst) group → IsAtMostLeast (problem_of inst) group n
-bound-low inst group n within is least l =
-    let b = bounds_hold (problem_of inst) group least (weighed inst) inst.valid.told within l in
+bound-low inst group n within is = at_most-each inst group n within (λ least l.
+    let b = bounds_hold (problem_of inst) group least inst.stands.weighed inst.valid.told within l in
     let f1 = b.bound_low in
     let f2 = b.one_step_low in
-    omega arith
+    omega arith)
 
 pub one_step-holds : (inst : Instance) (group : List ℕ) (n : ℕ) → IsWithin (problem_of inst) group → n ≡ one_step (problem_of inst) group → greedy_cost (problem_of inst) group ≤ greatest_cost → record {
   value : n ≡ one_step (problem_of inst) group;
@@ -39,20 +47,18 @@ pub one_step-holds : (inst : Instance) (group : List ℕ) (n : ℕ) → IsWithin
 one_step-holds inst group n within is small = record {
   value = is;
   above = (let f = bound-le-one_step (problem_of inst) group in omega arith);
-  low = λ least l. let f = (bounds_hold (problem_of inst) group least (weighed inst) inst.valid.told within l).one_step_low in omega arith;
+  low = at_most-each inst group n within (λ least l. let f = (bounds_hold (problem_of inst) group least inst.stands.weighed inst.valid.told within l).one_step_low in omega arith);
   fits =
       (let some = has_least (problem_of inst) group inst.valid.told within in
-      let stand = bounds_hold (problem_of inst) group some.0 (weighed inst) inst.valid.told within some.1 in
+      let stand = bounds_hold (problem_of inst) group some.0 inst.stands.weighed inst.valid.told within some.1 in
       let below = stand.one_step_low in
       let above = stand.greedy_high in
       omega arith);
-  wanted = λ t passed wanted e there s le. one_step-wanted (problem_of inst) group t passed (weighed inst) inst.valid.told wanted e there s (omega arith);
+  wanted = λ t passed wanted e there s le. one_step-wanted (problem_of inst) group t passed inst.stands.weighed inst.valid.told wanted e there s (omega arith);
 }
 
 pub greedy-high : (inst : Instance) (group : List ℕ) (n : ℕ) → IsWithin (problem_of inst) group → n ≡ greedy_cost (problem_of inst) group → IsAtLeastLeast (problem_of inst) group n
-greedy-high inst group n within is least l =
-    let f = (bounds_hold (problem_of inst) group least (weighed inst) inst.valid.told within l).greedy_high in
-    omega arith
+greedy-high inst group n within is = (greedy (problem_of inst) group, greedy-solves (problem_of inst) group inst.valid.told within, omega arith)
 
 -- greedy's strategy, in the words of the code
 pub greedy-right : (inst : Instance) (group : List ℕ) (tree : Tree) → IsWithin (problem_of inst) group → tree ≡ greedy (problem_of inst) group → Solves (problem_of inst) tree group

@@ -2,7 +2,7 @@
 -- at least what it says.
 use Rattle.std.proofs.Common.{◌≡◌, ℕ, zero, suc, ◌+◌, ◌*◌, ◌^◌, ◌<◌, ◌≤◌, List, [], ◌∷◌, ◌++◌, length, refl, sym, ap, ◌∙◌, arith, inl, inr, length-append}
 use Rattle.std.specs.Prelude.{true, false, map}
-use Rattle.std.proofs.lemmas.Bool.{cases_Bool, lt-leb, true≢false}
+use Rattle.std.proofs.lemmas.Bool.{cases_Bool, true≢false}
 use Rattle.std.proofs.lemmas.List.Sums.{sum_by-cons}
 use Rattle.seq_theory.specs.Problem.{Problem, IsIn, IsWithin, all_classes, weight_of, pass_part, fail_part, is_end}
 use Rattle.seq_theory.specs.Huffman.{place_in, upward, merging, huff}
@@ -10,13 +10,11 @@ use Rattle.seq_theory.specs.Bound.{goal_weights}
 use Rattle.seq_theory.proofs.HuffmanLaws.{length-place, length-upward, total, total-place, total-upward}
 use Rattle.seq_theory.proofs.BoundLeast.{weight-positive}
 use Rattle.seq_theory.proofs.LeastLaws.{IsIn-count_up}
+use Rattle.seq_theory.proofs.BelowLaws.{passing-in, length-passing, class-within, weight-passing}
 use Rattle.seq_inst.specs.declared.group.Group.{Group}
 use Rattle.seq_inst.specs.declared.instance.Instance.{Instance}
 use Rattle.seq_inst.specs.Members.{has_class, members_below, members}
 use Rattle.seq_inst.specs.Instances.{problem_of}
-use Rattle.seq_inst.proofs.MembersLaws.{members_below-in, length-members_below}
-use Rattle.seq_inst.proofs.PartsLaws.{is_end-length, class-within, weight-members_below}
-use Rattle.seq_inst.proofs.WithinLaws.{light}
 use Rattle.seq_huff.specs.declared.mass.Mass.{Mass}
 use Rattle.seq_huff.specs.Estimates.{IsMassOf}
 use Rattle.seq_huff.specs.Potential.{unit, potential, potentials}
@@ -143,10 +141,6 @@ pub record MassSays (inst : Instance) (g : Group) (m : Mass) : Type 0 where
   pub low : potential m.weight ≤ m.potential + unit * huff (goal_weights (problem_of inst) (members g))
   pub whole : m.weight ≤ huff (goal_weights (problem_of inst) (members g))
 
--- a group of two classes or more is no end
-pub is_end-many : (inst : Instance) (g : Group) (count : ℕ) → count ≡ length (members g) → 1 < count → is_end (problem_of inst) (members g) ≡ false
-is_end-many inst g count is many = sym (is_end-length inst g) ∙ lt-leb (length (members g)) 1 (omega arith)
-
 pub mass-says : (inst : Instance) (g : Group) (m : Mass) → IsWithin (problem_of inst) (members g) → is_end (problem_of inst) (members g) ≡ false → IsMassOf (problem_of inst) (members g) m → MassSays inst g m
 mass-says inst g m within more mass =
     let p = problem_of inst in
@@ -154,7 +148,7 @@ mass-says inst g m within more mass =
     let a = mass.weight in
     let b = mass.potential in
     let e = ap potential a in
-    let l = light inst g within in
+    let l = inst.stands.light g within in
     let w = weight-positive p (members g) (weighed inst) within (omega arith) in
     let f = huffman-least inst g within (omega arith) in
     let h = huffman-more inst g within more in
@@ -192,13 +186,13 @@ mass-more inst classes more class count weight potentials_sum w v m e we ve =
 pub mass-small : (inst : Instance) (g : Group) (class count weight potentials_sum w v : ℕ) → IsWithin (problem_of inst) (members g) → class < 512 → has_class g class ≡ true → MassBelow inst (members_below g class) count weight potentials_sum → w ≡ (problem_of inst).weight class → v ≡ potential ((problem_of inst).weight class) → (count + 1 ≤ 512) × (weight + w ≤ 4097000000) × (potentials_sum + v < 2 ^ 64)
 mass-small inst g class count weight potentials_sum w v within lt has m we ve =
     let p = problem_of inst in
-    let there = class-within p g class within lt has in
-    let more = mass-more inst (members_below g class) (members_below g (class + 1)) class count weight potentials_sum w v m (members_below-in g class has) we ve in
+    let there = class-within p (has_class g) class 512 within lt has in
+    let more = mass-more inst (members_below g class) (members_below g (class + 1)) class count weight potentials_sum w v m (passing-in (has_class g) class has) we ve in
     let a = more.weight_is in
     let b = more.potential_is in
-    let c = weight-members_below p g (class + 1) (omega arith) in
+    let c = weight-passing p (has_class g) (class + 1) (omega arith) in
     let d = inst.valid.total in
     let s = potentials-small p (members_below g (class + 1)) in
     let n = more.count_is in
-    let few = length-members_below g (class + 1) in
+    let few = length-passing (has_class g) (class + 1) in
     (omega arith, omega arith, omega arith)

@@ -7,6 +7,7 @@ use Rattle.seq_theory.specs.Problem.{Problem, splits, splitting}
 use Rattle.seq_theory.specs.Bound.{sum_first, splitting_costs}
 use Rattle.seq_theory.proofs.HuffmanLaws.{length-upward}
 use Rattle.seq_theory.proofs.PartsRecursion.{splitting-there}
+use Rattle.seq_theory.proofs.BelowLaws.{passing-all, length-passing}
 use Rattle.seq_inst.specs.declared.group.Group.{Group}
 use Rattle.seq_inst.specs.declared.instance.Instance.{Instance}
 use Rattle.seq_inst.specs.Members.{members}
@@ -14,7 +15,6 @@ use Rattle.seq_inst.specs.Instances.{problem_of}
 use Rattle.seq_huff.specs.Estimates.{AreSums}
 use Rattle.seq_huff.proofs.SumLaws.{sum-upward}
 use Rattle.seq_huff.proofs.BoundFits.{sum-map-le, sum_first-le, first_there, product-le}
-use Rattle.seq_huff.proofs.Written.{passing-all, length-passing}
 use Rattle.seq_huff.proofs.FirstCostLaws.{costs_among}
 
 -- the first of what is left

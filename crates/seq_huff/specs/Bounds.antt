@@ -1,9 +1,10 @@
 -- What a caller learns of the bounds of a group.
 use Rattle.std.specs.Prelude.{◌≡◌, ℕ, ◌<◌, ◌≤◌, Bool, true, false, List, IsPermutation}
 use Rattle.seq_theory.specs.Problem.{Problem, splits, is_end}
-use Rattle.seq_theory.specs.Tree.{IsLeast}
+use Rattle.seq_theory.specs.Tree.{Tree, Solves, tree_cost}
 use Rattle.seq_theory.specs.Bound.{bound, step_sum}
 use Rattle.seq_theory.specs.Graph.{part, IsWanted}
+pub use Rattle.seq_inst.specs.Stands.{greatest_cost}
 use Rattle.seq_theory.specs.Huffman.{BinaryTree, leaves, path_length_at}
 
 -- no binary tree with one leaf for each weight has a smaller weighted path length
@@ -12,18 +13,13 @@ UndercutsTrees weights n = (t : BinaryTree) → IsPermutation weights (leaves t)
 
 -- no right strategy for the group costs less
 abbrev pub IsAtMostLeast : Problem → List ℕ → ℕ → Type 0
-IsAtMostLeast p group n = (least : ℕ) → IsLeast p group least → n ≤ least
+IsAtMostLeast p group n = (tree : Tree) → Solves p tree group → n ≤ tree_cost p tree group
 
 -- some right strategy for the group costs no more
 abbrev pub IsAtLeastLeast : Problem → List ℕ → ℕ → Type 0
-IsAtLeastLeast p group n = (least : ℕ) → IsLeast p group least → least ≤ n
+IsAtLeastLeast p group n = (tree : Tree) × Solves p tree group × (tree_cost p tree group ≤ n)
 
 -- where the group is wanted, so is each part of it by a splitting test that costs at most this, with the bounds of both
 -- parts
 abbrev pub WantsParts : Problem → List ℕ → ℕ → Type 0
 WantsParts p group n = (t : ℕ) (passed : Bool) → IsWanted p group → is_end p group ≡ false → t < p.tests → splits p group t ≡ true → step_sum p (bound p) group t ≤ n → IsWanted p (part p t passed group)
-
--- no bound and no greedy cost of a group is above it: 512 tests of 1,000,000 each for a weight of 4,097,000,000. Three such
--- numbers fit a word together
-abbrev pub greatest_cost : ℕ
-greatest_cost = 2097664000000000000

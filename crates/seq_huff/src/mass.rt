@@ -13,7 +13,7 @@ ghost use Rattle.seq_huff.specs.Estimates.{IsMassOf};
 
 use crate::order::Order;
 use crate::potential::{UNIT, nearly_potential};
-use seq_inst::{Ahead, Group, Instance, count_of};
+use seq_inst::{Ahead, Group, Instance, count_of, is_leaf};
 
 /// How many classes there are, their weight, and the sum of their potentials.
 #[derive(Clone, Copy)]
@@ -120,9 +120,7 @@ pub(crate) fn least_huffman(inst: &Instance, group: &Group, mass: Mass) -> u64
     requires mass { IsMassOf (problem_of inst.now) (members group.now) mass }
     ensures { result ≤ huff (goal_weights (problem_of inst.now) (members group.now)) }
 {
-    let _ = inst;
-    let _ = group;
-    if mass.classes <= 1 {
+    if is_leaf(inst, group) {
         0
     } else {
         huffman_by_mass(mass).max(mass.weight)

@@ -5,7 +5,7 @@ use crate::merging::huffman_of;
 use crate::{
     Estimate, Order, Scratch, bound, greedy, greedy_cost, huffman, one_step, ordered_bound,
 };
-use seq_inst::{Answer, Group, Instance, cost_of, part, root, splits};
+use seq_inst::{Answer, Group, Instance, checked_holds, cost_of, part, root, splits};
 use std::alloc::{AllocError, Global};
 use std::test::Fail;
 
@@ -20,6 +20,7 @@ fn two_faults(alloc: Global) -> Result<Instance, AllocError>
         Group([5, 0, 0, 0, 0, 0, 0, 0]),
         Group([3, 0, 0, 0, 0, 0, 0, 0]),
     ]?;
+    checked_holds();
     Ok(Instance::new(weights, costs, passes))
 }
 
@@ -32,6 +33,7 @@ fn receiver(alloc: Global) -> Result<Instance, AllocError> {
         Group([9, 0, 0, 0, 0, 0, 0, 0]),
         Group([1, 0, 0, 0, 0, 0, 0, 0]),
     ]?;
+    checked_holds();
     Ok(Instance::new(weights, costs, passes))
 }
 
@@ -45,6 +47,7 @@ fn star(alloc: Global) -> Result<Instance, AllocError> {
         Group([23, 0, 0, 0, 0, 0, 0, 0]),
         Group([15, 0, 0, 0, 0, 0, 0, 0]),
     ]?;
+    checked_holds();
     Ok(Instance::new(weights, costs, passes))
 }
 

@@ -30,10 +30,12 @@ fn write_weights(inst: &Instance, group: &Group, out: &mut [u64]) -> usize
     count
 }
 
-/// Huffman's cost of the weights that the goals of the group have in it.
+/// Huffman's cost of the weights that the goals of the group have in it. Each class is a goal by itself, so
+/// these are the weights of its classes.
 pub fn huffman(scratch: &mut Scratch, inst: &Instance, group: &Group) -> u64
     requires { IsWithin (problem_of inst.now) (members group.now) }
     ensures value { result ≡ huff (goal_weights (problem_of inst.now) (members group.now)) }
+    ensures weights { goal_weights (problem_of inst.now) (members group.now) ≡ map (problem_of inst.now).weight (members group.now) }
     ensures least { UndercutsTrees (goal_weights (problem_of inst.now) (members group.now)) result }
 {
     let count = write_weights(inst, group, &mut scratch.weights);

@@ -8,7 +8,7 @@ use Rattle.std.proofs.lemmas.Nat.Bits.{bit_at-zero, bit_at_lowest, bit_at-suc, b
 use Rattle.seq_inst.specs.declared.group.Group.{Group}
 use Rattle.seq_inst.specs.declared.ahead.Ahead.{Ahead}
 use Rattle.seq_inst.specs.Members.{has_class, HasNoneFrom}
-use Rattle.seq_inst.specs.Walks.{IsAhead, IsNext}
+use Rattle.seq_inst.specs.Walks.{IsAhead, IsNext, IsAheadOf}
 use Rattle.seq_inst.proofs.WordLaws.{place}
 use Rattle.seq_inst.proofs.FirstLaws.{first-after, IsFound}
 
@@ -51,11 +51,6 @@ less_one (suc t) n set clear =
     over (suc i) lt half rest = bit_at-suc (n - 1) i ∙ ap (λ m. bit_at m i) half ∙ rest.above i (omega arith) ∙ sym (bit_at-suc n i)
 
 -- ---- the walk ----
-
--- a loop over the classes of a group, with the class where it stands
-abbrev pub IsAheadOf : Group → Ahead → Option ℕ → Type 0
-IsAheadOf g a None = Unit {0}
-IsAheadOf g a (Some c) = IsAhead g a (c + 1)
 
 pub next-is_found : (g : Group) (a : Ahead) (from : ℕ) (next : Option ℕ) → IfSome next (IsNext g a from) → IfNone next (HasNoneFrom g from) → IsFound g from next
 next-is_found g a from None some none = none

@@ -1,16 +1,16 @@
 -- The first class of a group from a number on, in a word and in the group.
-use Rattle.std.proofs.Common.{◌≡◌, ℕ, ◌+◌, ◌-◌, ◌*◌, ◌/◌, ◌%◌, ◌^◌, ◌<◌, ◌≤◌, [], ◌∷◌, ◌++◌, get_or, refl, sym, ap, ◌∙◌, arith, inl, inr, zero, suc}
-use Rattle.std.specs.Prelude.{Bool, true, false, filter, Option, Some, None, IfSome, IfNone}
+use Rattle.std.proofs.Common.{◌≡◌, ℕ, ◌+◌, ◌-◌, ◌*◌, ◌/◌, ◌%◌, ◌^◌, ◌<◌, ◌≤◌, [], ◌∷◌, ◌++◌, get_or, sym, ap, ◌∙◌, arith, inl, inr}
+use Rattle.std.specs.Prelude.{true, false, Option, Some, None, IfSome, IfNone}
 use Rattle.std.specs.Int.{bit_at, trailing_zeros, w64}
 use Rattle.std.proofs.lemmas.Bool.{cases_lt, eq-eqb, ne_eqb}
 use Rattle.std.proofs.lemmas.Nat.{pow-add}
 use Rattle.std.proofs.lemmas.Nat.Bits.{bit_at-zero, bit_at_above, bit_at-trailing_zeros}
 use native.Mathlib.Nat.{div-div-eq-div-mul}
-use Rattle.seq_theory.specs.Problem.{count_up}
 use Rattle.seq_inst.specs.declared.group.Group.{Group}
-use Rattle.seq_inst.specs.Members.{has_class, members_below, IsFirstFrom, HasNoneFrom}
-use Rattle.seq_inst.proofs.MembersLaws.{append-nil, members_below-zero, members_below-in}
-use Rattle.seq_inst.proofs.WordLaws.{place, members_below-split}
+use Rattle.seq_inst.specs.Members.{has_class, members_below, IsFirstFrom, HasNoneFrom, reached, IsClass, IsStep}
+use Rattle.seq_theory.proofs.BelowLaws.{passing-skip}
+use Rattle.seq_inst.proofs.MembersLaws.{members_below-zero, members_below-in}
+use Rattle.seq_inst.proofs.WordLaws.{place}
 
 -- a bit of a word that was shifted down
 bit-shifted : (n s j : ℕ) → bit_at (n / 2 ^ s) j ≡ bit_at n (s + j)
@@ -59,25 +59,9 @@ first-after g from later c le none first =
       ];
     }
 
-filter-none : (f : ℕ → Bool) (from n : ℕ) → ((k : ℕ) → from ≤ k → k < from + n → f k ≡ false) → filter f (count_up from n) ≡ []
-filter-none f from zero none = refl
-filter-none f from (suc n) none = rw (none from (omega arith) (omega arith)) (filter-none f (suc from) n (λ k l u. none k (omega arith) (omega arith)))
-
 -- up to a class that is the first from a number on, there is no more than up to that number
-pub members_below-skip : (g : Group) (from to : ℕ) → from ≤ to → ((k : ℕ) → from ≤ k → k < to → has_class g k ≡ false) → members_below g to ≡ members_below g from
-members_below-skip g from to le none =
-    let e : to ≡ from + (to - from) = omega arith in
-    ap (members_below g) e ∙ members_below-split g from (to - from)
-    ∙ ap (λ l. members_below g from ++ l) (filter-none (has_class g) from (to - from) (λ k l u. none k l (omega arith))) ∙ append-nil (members_below g from)
-
--- a loop over the classes of a group: where it stands, and that there is a class
-abbrev pub reached : Option ℕ → ℕ
-reached None = 512
-reached (Some c) = c
-
-abbrev pub IsClass : Group → Option ℕ → Type 0
-IsClass g None = Unit {0}
-IsClass g (Some c) = (c < 512) × (has_class g c ≡ true)
+members_below-skip : (g : Group) (from to : ℕ) → from ≤ to → ((k : ℕ) → from ≤ k → k < to → has_class g k ≡ false) → members_below g to ≡ members_below g from
+members_below-skip g from to le none = passing-skip (has_class g) from to le none
 
 -- the outcome of a search, for such a loop
 abbrev pub IsFound : Group → ℕ → Option ℕ → Type 0
@@ -106,3 +90,7 @@ first-members g next f = found-members g 0 next (omega arith) f ∙ members_belo
 
 pub next-members : (g : Group) (c : ℕ) (next : Option ℕ) → c < 512 → has_class g c ≡ true → IsFound g (c + 1) next → members_below g (reached next) ≡ members_below g c ++ c ∷ []
 next-members g c next lt has f = found-members g (c + 1) next (omega arith) f ∙ members_below-in g c has
+
+-- so a walk goes on a step
+pub found-step : (g : Group) (from : ℕ) (next : Option ℕ) → from ≤ 512 → IsFound g from next → IsStep g from next
+found-step g from next le f = record { class = found-class g from next f; on = found-reached g from next le f; before = found-members g from next le f }

@@ -1,12 +1,14 @@
 -- Groups word by word and class by class.
-use Rattle.std.proofs.Common.{◌≡◌, ℕ, zero, suc, ◌+◌, ◌/◌, ◌%◌, ◌<◌, ◌≤◌, List, [], ◌∷◌, ◌++◌, length, get_or, refl, sym, ap, ◌∙◌, arith, inl, inr}
+use Rattle.std.proofs.Common.{◌≡◌, ℕ, ◌+◌, ◌/◌, ◌%◌, ◌<◌, ◌≤◌, List, [], ◌∷◌, ◌++◌, length, get_or, refl, sym, ap, ◌∙◌, arith, inl, inr}
 use Rattle.std.specs.Prelude.{Bool, true, false, not, ◌&&◌, cond, filter, nat_eq, bit_and, bit_xor}
 use Rattle.std.proofs.Common.{◌≢◌, set, below_more, get_or-set_same, get_or-set_other}
 use Rattle.std.specs.Int.{bit_at}
 use Rattle.std.proofs.lemmas.Bool.{cases_Bool, cases_lt, eq-eqb, ne_eqb}
 use Rattle.std.proofs.lemmas.Nat.Bits.{bit_at_and, bit_at_xor, bit_at-lt}
 use Rattle.seq_theory.specs.Problem.{count_up, IsIn}
+use Rattle.seq_theory.specs.Below.{passing_below}
 use Rattle.seq_theory.proofs.LeastLaws.{count_up-IsIn}
+use Rattle.seq_theory.proofs.BelowLaws.{passing-in, passing-out, passing-more, passing-zero, length-passing}
 use Rattle.seq_inst.specs.declared.group.Group.{Group}
 use Rattle.seq_inst.specs.Members.{has_class, members_below, members}
 
@@ -52,65 +54,33 @@ bit-lacks a b i =
     ]
 
 pub members-common : (r a b : Group) → ((k : ℕ) → k < 8 → get_or r.0 k 0 ≡ bit_and (get_or a.0 k 0) (get_or b.0 k 0)) → members r ≡ filter (has_class b) (members a)
-unfolding members_below
+unfolding passing_below
 members-common r a b words = filter_two (has_class a) (has_class b) (has_class r) (count_up 0 512) (λ c i.
     let lt = count_up-IsIn c 0 512 i in
     let k : c / 64 < 8 = omega arith in
     ap (λ w. nat_eq (bit_at w (c % 64)) 1) (words (c / 64) k) ∙ bit-and (get_or a.0 (c / 64) 0) (get_or b.0 (c / 64) 0) (c % 64))
 
 pub members-without : (r a b : Group) → ((k : ℕ) → k < 8 → get_or r.0 k 0 ≡ bit_xor (get_or a.0 k 0) (bit_and (get_or a.0 k 0) (get_or b.0 k 0))) → members r ≡ filter (λ c. not (has_class b c)) (members a)
-unfolding members_below
+unfolding passing_below
 members-without r a b words = filter_two (has_class a) (λ c. not (has_class b c)) (has_class r) (count_up 0 512) (λ c i.
     let lt = count_up-IsIn c 0 512 i in
     let k : c / 64 < 8 = omega arith in
     ap (λ w. nat_eq (bit_at w (c % 64)) 1) (words (c / 64) k) ∙ bit-lacks (get_or a.0 (c / 64) 0) (get_or b.0 (c / 64) 0) (c % 64))
 
-pub count_up-more : (from n : ℕ) → count_up from (suc n) ≡ count_up from n ++ (from + n) ∷ []
-count_up-more from zero = ap (λ n. n ∷ []) (let e : from ≡ from + 0 = omega arith in e)
-count_up-more from (suc n) = ap (λ l. from ∷ l) (count_up-more (suc from) n ∙ ap (λ m. count_up (suc from) n ++ m ∷ []) (let e : suc from + n ≡ from + suc n = omega arith in e))
-
-filter-last : (f : ℕ → Bool) (xs : List ℕ) (x : ℕ) → filter f (xs ++ x ∷ []) ≡ filter f xs ++ cond (f x) (x ∷ []) []
-filter-last f [] x = elim (cases_Bool (f x)) [ inl y ↦ rw y refl | inr n ↦ rw n refl ]
-filter-last f (z ∷ xs) x = elim (cases_Bool (f z)) [
-  | inl y ↦ rw y (ap (λ l. z ∷ l) (filter-last f xs x))
-  | inr n ↦ rw n (filter-last f xs x)
-]
-
-pub append-nil : (xs : List ℕ) → xs ++ [] ≡ xs
-append-nil [] = refl
-append-nil (x ∷ xs) = ap (λ l. x ∷ l) (append-nil xs)
-
-pub members_below-more : (g : Group) (n : ℕ) → members_below g (n + 1) ≡ members_below g n ++ cond (has_class g n) (n ∷ []) []
-unfolding members_below
-members_below-more g n =
-    let e : n + 1 ≡ suc n = omega arith in
-    let e2 : 0 + n ≡ n = omega arith in
-    ap (λ m. filter (has_class g) (count_up 0 m)) e ∙ ap (filter (has_class g)) (count_up-more 0 n ∙ ap (λ m. count_up 0 n ++ m ∷ []) e2) ∙ filter-last (has_class g) (count_up 0 n) n
-
 pub members_below-in : (g : Group) (n : ℕ) → has_class g n ≡ true → members_below g (n + 1) ≡ members_below g n ++ n ∷ []
-members_below-in g n e = members_below-more g n ∙ rw e refl
+members_below-in g n e = passing-in (has_class g) n e
 
 pub members_below-out : (g : Group) (n : ℕ) → has_class g n ≡ false → members_below g (n + 1) ≡ members_below g n
-members_below-out g n e = members_below-more g n ∙ rw e (append-nil (members_below g n))
+members_below-out g n e = passing-out (has_class g) n e
+
+pub members_below-more : (g : Group) (n : ℕ) → members_below g (n + 1) ≡ members_below g n ++ cond (has_class g n) (n ∷ []) []
+members_below-more g n = passing-more (has_class g) n
 
 pub members_below-zero : (g : Group) → members_below g 0 ≡ []
-unfolding members_below
-members_below-zero g = refl
-
-length-filter-le : (f : ℕ → Bool) (xs : List ℕ) → length (filter f xs) ≤ length xs
-length-filter-le f [] = omega arith
-length-filter-le f (x ∷ xs) = elim (cases_Bool (f x)) [
-  | inl y ↦ rw y (omega (arith, length-filter-le f xs))
-  | inr n ↦ rw n (omega (arith, length-filter-le f xs))
-]
-
-pub length-count_up : (from n : ℕ) → length (count_up from n) ≡ n
-length-count_up from zero = refl
-length-count_up from (suc n) = ap suc (length-count_up (suc from) n)
+members_below-zero g = passing-zero (has_class g)
 
 pub length-members_below : (g : Group) (n : ℕ) → length (members_below g n) ≤ n
-unfolding members_below
-length-members_below g n = omega (arith, length-filter-le (has_class g) (count_up 0 n), length-count_up 0 n)
+length-members_below g n = length-passing (has_class g) n
 
 -- one more word of a table that is written in order
 pub word_more : (f : ℕ → ℕ) (words : List ℕ) (i : ℕ) → i < length words → ((k : ℕ) → k < i → get_or words k 0 ≡ f k) → (k : ℕ) → k < i + 1 → get_or (set words i (f i)) k 0 ≡ f k

@@ -1,12 +1,14 @@
 -- The group of all classes, bit by bit.
-use Rattle.std.proofs.Common.{◌≡◌, ◌≢◌, ℕ, zero, suc, ◌+◌, ◌*◌, ◌/◌, ◌%◌, ◌^◌, ◌<◌, ◌≤◌, List, ◌∷◌, length, get_or, set, refl, sym, ap, ◌∙◌, arith, inl, inr, get_or-set_same, get_or-set_other, length-set, subst}
+use Rattle.std.proofs.Common.{◌≡◌, ◌≢◌, ℕ, zero, suc, ◌+◌, ◌*◌, ◌/◌, ◌%◌, ◌^◌, ◌<◌, ◌≤◌, List, ◌∷◌, length, get_or, set, refl, sym, ap, ◌∙◌, arith, inl, inr, get_or-set_same, get_or-set_other, length-set}
 use Rattle.std.specs.Prelude.{Bool, filter, nat_eq, nat_lt, bit_or}
 use Rattle.std.specs.Int.{bit_at, w64}
 use Rattle.std.proofs.lemmas.Bool.{cases_lt, cases_eq, lt-ltb, le-ltb}
 use Rattle.std.proofs.lemmas.Nat.Bits.{bit_at_set_same, bit_at_set_other, bit_at-zero}
-use Rattle.seq_theory.specs.Problem.{Problem, count_up, IsIn, IsWithin, all_classes}
+use Rattle.seq_theory.specs.Problem.{count_up, IsIn}
+use Rattle.seq_theory.specs.Below.{passing_below}
+pub use Rattle.seq_theory.proofs.BelowLaws.{within-all}
 use Rattle.seq_theory.proofs.LeastLaws.{count_up-IsIn}
-use Rattle.seq_inst.specs.Members.{has_class, members_below, members}
+use Rattle.seq_inst.specs.Members.{has_class, members}
 
 -- the words have exactly the classes below n
 pub record AreBelow (words : List ℕ) (n : ℕ) : Type 0 where
@@ -65,9 +67,6 @@ filter-lt f from (suc k) (suc m) le h =
     (λ c i. h c (inr i) ∙ ap (nat_lt c) (let e : from + suc k ≡ suc from + k = omega arith in e))))
 
 pub members-from_below : (words : List ℕ) (n : ℕ) → n ≤ 512 → AreBelow words n → members (record { 0 = words }) ≡ count_up 0 n
-unfolding members_below
+unfolding passing_below
 members-from_below words n le below = filter-lt (has_class (record { 0 = words })) 0 n 512 le
     (λ c i. let w = count_up-IsIn c 0 512 i in below.each c (omega arith) ∙ ap (nat_lt c) (let e : n ≡ 0 + n = omega arith in e))
-
-pub within-all : (p : Problem) (xs : List ℕ) → xs ≡ all_classes p → IsWithin p xs
-within-all p xs e c i = let w = count_up-IsIn c 0 p.classes (subst (IsIn c) e i) in omega arith

@@ -1,27 +1,23 @@
 -- Two groups with the same classes are the same words.
-use Rattle.std.proofs.Common.{◌≡◌, ℕ, suc, ◌+◌, ◌*◌, ◌/◌, ◌%◌, ◌^◌, ◌<◌, List, [], ◌∷◌, length, get_or, refl, sym, ap, ◌∙◌, arith, inl, inr, subst}
-use Rattle.std.specs.Prelude.{true, nat_eq}
+use Rattle.std.proofs.Common.{◌≡◌, ℕ, suc, ◌+◌, ◌*◌, ◌/◌, ◌%◌, ◌<◌, List, [], ◌∷◌, length, get_or, refl, sym, ap, ◌∙◌, arith, inl, inr, subst}
+use Rattle.std.specs.Prelude.{Bool, true, false, nat_eq}
+use Rattle.std.specs.Str.{bytes_eq}
+use Rattle.std.proofs.lemmas.Slice.Eq.{bytes_eq-Decides}
 use Rattle.std.specs.Int.{bit_at}
 use Rattle.std.proofs.lemmas.Bool.{cases_Bool, cases_lt, eqb-true, eqb-false, false≢true}
 use Rattle.std.proofs.lemmas.Nat.Bits.{bit_at-lt, same_from_bits_below}
-use Rattle.seq_theory.specs.Problem.{count_up, IsIn}
-use Rattle.seq_theory.proofs.LeastLaws.{IsIn-count_up}
-use Rattle.seq_theory.proofs.GroupLaws.{IsIn-filter, filter_passes}
+use Rattle.seq_theory.specs.Problem.{IsIn}
+use Rattle.seq_theory.specs.Graph.{same_group}
+use Rattle.seq_theory.proofs.BelowLaws.{IsIn-passing, passing-passes}
+use Rattle.seq_theory.proofs.RowLaws.{same_group-true, same_group-refl}
 use Rattle.seq_inst.specs.declared.group.Group.{Group}
-use Rattle.seq_inst.specs.Members.{has_class, members_below, members}
-
--- eight words of 64 bits
-pub record AreWords (words : List ℕ) : Type 0 where
-  pub eight : length words ≡ 8
-  pub each : (k : ℕ) → k < 8 → get_or words k 0 < 2 ^ 64
+use Rattle.seq_inst.specs.Members.{has_class, members, IsWords, SameWordsHold}
 
 pub class-member : (g : Group) (c : ℕ) → c < 512 → has_class g c ≡ true → IsIn c (members g)
-unfolding members_below
-class-member g c lt e = IsIn-filter (has_class g) c (count_up 0 512) (IsIn-count_up c 0 512 (omega arith) (omega arith)) e
+class-member g c lt e = IsIn-passing (has_class g) c 512 lt e
 
 pub member-class : (g : Group) (c : ℕ) → IsIn c (members g) → has_class g c ≡ true
-unfolding members_below
-member-class g c i = filter_passes (has_class g) c (count_up 0 512) i
+member-class g c i = passing-passes (has_class g) c 512 i
 
 same_class : (g h : Group) → members g ≡ members h → (c : ℕ) → c < 512 → has_class g c ≡ has_class h c
 same_class g h e c lt = elim (cases_Bool (has_class g c)) [
@@ -54,7 +50,7 @@ same_lists (x ∷ xs) (y ∷ ys) e h =
     let first : x ≡ y = h 0 (omega arith) in
     ap (λ n. n ∷ xs) first ∙ ap (λ l. y ∷ l) (same_lists xs ys (omega arith) (λ k lt. h (suc k) (omega arith)))
 
-pub same_members : (g h : Group) → AreWords g.0 → AreWords h.0 → members g ≡ members h → g.0 ≡ h.0
+pub same_members : SameWordsHold
 same_members g h wg wh e =
     let lg = wg.eight in
     let lh = wh.eight in
@@ -66,3 +62,22 @@ same_members g h wg wh e =
     let s = same_class g h e (64 * k + i) (omega arith) in
     let at = (λ (x : Group). ap (λ j. nat_eq (bit_at (get_or x.0 j 0) ((64 * k + i) % 64)) 1) d ∙ ap (λ j. nat_eq (bit_at (get_or x.0 k 0) j) 1) m) in
     same_bit (bit_at (get_or g.0 k 0) i) (bit_at (get_or h.0 k 0) i) (bit_at-lt (get_or g.0 k 0) i) (bit_at-lt (get_or h.0 k 0) i) (sym (at g) ∙ s ∙ at h)))
+
+same-classes : (g h : Group) → g.0 ≡ h.0 → same_group (members g) (members h) ≡ true
+same-classes g h e =
+    let whole : g ≡ h = ap (λ (ws : List ℕ). group_of ws) e in
+    ap (λ (x : Group). same_group (members g) (members x)) (sym whole) ∙ same_group-refl (members g)
+  where
+    group_of : List ℕ → Group
+    group_of ws = record { 0 = ws }
+
+-- the words of two groups are the same exactly where their classes are
+pub words-tell : (g h : Group) → IsWords g → IsWords h → bytes_eq g.0 h.0 ≡ same_group (members g) (members h)
+words-tell g h wg wh = equal (bytes_eq g.0 h.0) (same_group (members g) (members h))
+    (λ t. same-classes g h ((bytes_eq-Decides g.0 h.0).0 t))
+    (λ t. (bytes_eq-Decides g.0 h.0).1 (same_members g h wg wh (same_group-true (members g) (members h) t)))
+  where
+    equal : (x y : Bool) → (x ≡ true → y ≡ true) → (y ≡ true → x ≡ true) → x ≡ y
+    equal true y h k = sym (h refl)
+    equal false true h k = k refl
+    equal false false h k = refl

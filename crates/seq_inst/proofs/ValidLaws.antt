@@ -1,37 +1,18 @@
--- A test, which computes, whether lists are those of a valid instance: what a caller that writes an instance out shows.
--- A passing group is tested word by word: no word has a bit of a class past the last.
+-- Lists that pass the test, which computes, are those of a valid instance. A passing group is tested word by word: no word has a bit of a class past the last.
 use Rattle.std.proofs.Common.{◌≡◌, ℕ, zero, suc, ◌*◌, ◌-◌, ◌/◌, ◌%◌, ◌^◌, ◌<◌, List, [], ◌∷◌, length, get_or, refl, sym, ap, ◌∙◌, arith, inl, inr, subst}
-use Rattle.std.specs.Prelude.{Bool, true, false, ◌||◌, ◌&&◌, not, nat_le, nat_lt, nat_eq, slice_index, slice_index_or}
+use Rattle.std.specs.Prelude.{Bool, true, false, ◌||◌, not, nat_le, nat_lt, nat_eq, slice_index, slice_index_or}
 use Rattle.std.specs.List.{list_any, list_all}
 use Rattle.std.specs.Int.{bit_at}
 use Rattle.std.proofs.lemmas.Bool.{and_parts, leb-true, eqb-true, false≢true, cases_lt}
 use Rattle.std.proofs.lemmas.Nat.Bits.{bit_at_above}
 use borrow.Author.Tests.{ltb-true}
-use mathlib.Core.Bool.{beq}
+use Rattle.seq_theory.specs.States.{same}
+use Rattle.seq_inst.specs.Checked.{is_told_pair, are_told, is_below, is_cost, is_valid, CheckedHolds}
 use Rattle.seq_theory.specs.Problem.{Problem, IsIn, AreTold, count_up, weight_of, all_classes}
 use Rattle.seq_theory.proofs.LeastLaws.{IsIn-count_up, count_up-IsIn}
 use Rattle.seq_inst.specs.declared.group.Group.{Group}
 use Rattle.seq_inst.specs.Members.{has_class}
 use Rattle.seq_inst.specs.Valid.{problem_from, no_class, IsValid}
-
--- some test answers differently for the classes, or they are one
-abbrev pub is_told_pair : Problem → ℕ → ℕ → Bool
-is_told_pair p a b = nat_eq a b || list_any (λ t. not (beq (p.passes t a) (p.passes t b))) (count_up 0 p.tests)
-
-abbrev pub are_told : Problem → Bool
-are_told p = list_all (λ a. list_all (λ b. is_told_pair p a b) (count_up 0 p.classes)) (count_up 0 p.classes)
-
--- no word of the group has a bit of a class from n on
-abbrev pub is_below : ℕ → Group → Bool
-is_below n g = list_all (λ k. nat_lt (slice_index g.0 k) (2 ^ (n - 64 * k))) (count_up 0 8)
-
-abbrev pub is_cost : ℕ → Bool
-is_cost c = nat_le 1 c && nat_le c 1000000
-
-abbrev pub is_valid : List ℕ → List ℕ → List Group → Bool
-is_valid ws cs ps =
-    nat_le 1 (length ws) && (nat_le (length ws) 512 && (list_all (nat_le 1) ws && (nat_le (weight_of (problem_from ws cs ps) (all_classes (problem_from ws cs ps))) 4097000000
-    && (nat_le (length cs) 256 && (list_all is_cost cs && (nat_eq (length ps) (length cs) && (list_all (λ t. is_below (length ws) (slice_index_or ps t no_class)) (count_up 0 (length ps)) && are_told (problem_from ws cs ps))))))))
 
 all-at : (f : ℕ → Bool) (xs : List ℕ) → list_all f xs ≡ true → (k : ℕ) → k < length xs → f (get_or xs k 0) ≡ true
 all-at f [] e k lt = absurd (let bad : ⊥ = omega arith in bad)
@@ -46,14 +27,14 @@ all-in f (x ∷ xs) e c (inr i) = all-in f xs (and_parts (f x) (list_all f xs) e
 all-below : (f : ℕ → Bool) (n : ℕ) → list_all f (count_up 0 n) ≡ true → (c : ℕ) → c < n → f c ≡ true
 all-below f n e c lt = all-in f (count_up 0 n) e c (IsIn-count_up c 0 n (omega arith) (omega arith))
 
-beq-same : (a : Bool) → beq a a ≡ true
-beq-same true = refl
-beq-same false = refl
+same-itself : (a : Bool) → same a a ≡ true
+same-itself true = refl
+same-itself false = refl
 
-none-differ : (p : Problem) (a b : ℕ) (xs : List ℕ) → ((t : ℕ) → IsIn t xs → p.passes t a ≡ p.passes t b) → list_any (λ t. not (beq (p.passes t a) (p.passes t b))) xs ≡ false
+none-differ : (p : Problem) (a b : ℕ) (xs : List ℕ) → ((t : ℕ) → IsIn t xs → p.passes t a ≡ p.passes t b) → list_any (λ t. not (same (p.passes t a) (p.passes t b))) xs ≡ false
 none-differ p a b [] h = refl
 none-differ p a b (x ∷ xs) h =
-    let e : beq (p.passes x a) (p.passes x b) ≡ true = ap (λ v. beq v (p.passes x b)) (h x (inl refl)) ∙ beq-same (p.passes x b) in
+    let e : same (p.passes x a) (p.passes x b) ≡ true = ap (λ v. same v (p.passes x b)) (h x (inl refl)) ∙ same-itself (p.passes x b) in
     rw e (none-differ p a b xs (λ t i. h t (inr i)))
 
 or-first : (a b : Bool) → (a || b) ≡ true → b ≡ false → a ≡ true
@@ -102,6 +83,6 @@ IsValid-from_test ws cs ps e =
     }
 
 -- the same for lists that a program has made
-pub IsValid-of : (weights ws costs cs : List ℕ) (passes ps : List Group) → weights ≡ ws → costs ≡ cs → passes ≡ ps → is_valid ws cs ps ≡ true → IsValid weights costs passes
+pub IsValid-of : CheckedHolds
 IsValid-of weights ws costs cs passes ps e1 e2 e3 t =
     subst (λ w. IsValid w costs passes) (sym e1) (subst (λ c. IsValid ws c passes) (sym e2) (subst (λ q. IsValid ws cs q) (sym e3) (IsValid-from_test ws cs ps t)))

@@ -8,10 +8,10 @@ use Rattle.std.proofs.lemmas.Nat.{ones-le, zero_from_ones, xor_lt}
 use Rattle.std.specs.Int.Bits.{and_lt}
 use Rattle.std.proofs.lemmas.Nat.Bits.{bit_at_lowest, bit_at-suc}
 use Rattle.std.proofs.lemmas.List.Folds.{list_any-append}
-use Rattle.std.proofs.lemmas.List.Elements.{filter-append}
 use Rattle.std.specs.Int.Count.{ones_step}
 use native.Mathlib.Nat.{pow-suc}
 use Rattle.seq_theory.specs.Problem.{count_up}
+use Rattle.seq_theory.proofs.BelowLaws.{passing-split}
 use Rattle.seq_inst.specs.declared.group.Group.{Group}
 use Rattle.seq_inst.specs.Members.{has_class, members_below, members}
 use Rattle.seq_inst.proofs.MembersLaws.{bit-and, bit-lacks}
@@ -58,15 +58,9 @@ any-length f (x ∷ xs) = elim (cases_Bool (f x)) [
 pub any-word : (f : ℕ → Bool) (from k n : ℕ) → IsWordOf f from k n → list_any f (count_up from k) ≡ nat_lt 0 n
 any-word f from k n w = sym (any-length f (count_up from k)) ∙ ap (nat_lt 0) (length-word f from k n w) ∙ ones-some n
 
-count_up-append : (from m k : ℕ) → count_up from (m + k) ≡ count_up from m ++ count_up (from + m) k
-count_up-append from zero k = ap (count_up from) (let e : 0 + k ≡ k = omega arith in e) ∙ ap (λ a. count_up a k) (let e : from ≡ from + 0 = omega arith in e)
-count_up-append from (suc m) k = ap (count_up from) (let e : suc m + k ≡ suc (m + k) = omega arith in e) ∙ ap (λ l. from ∷ l) (count_up-append (suc from) m k ∙ ap (λ a. count_up (suc from) m ++ count_up a k) (let e : suc from + m ≡ from + suc m = omega arith in e))
-
 -- a group up to a class, and the stretch from there
 pub members_below-split : (g : Group) (m k : ℕ) → members_below g (m + k) ≡ members_below g m ++ filter (has_class g) (count_up m k)
-unfolding members_below
-members_below-split g m k =
-    ap (filter (has_class g)) (count_up-append 0 m k ∙ ap (λ a. count_up 0 m ++ count_up a k) (let e : 0 + m ≡ m = omega arith in e)) ∙ filter-append (has_class g) (count_up 0 m) (count_up m k)
+members_below-split g m k = passing-split (has_class g) m k
 
 pub members_below-word : (g : Group) (i : ℕ) → members_below g (64 * (i + 1)) ≡ members_below g (64 * i) ++ filter (has_class g) (count_up (64 * i) 64)
 members_below-word g i = ap (members_below g) (let e : 64 * (i + 1) ≡ 64 * i + 64 = omega arith in e) ∙ members_below-split g (64 * i) 64

@@ -5,3 +5,5 @@ pub mod Instances
 pub mod Answers
 pub mod Trees
 pub mod Shapes
+pub mod Stands
+pub mod Checked

@@ -1,5 +1,5 @@
 -- Where a walk over a group stands.
-use Rattle.std.specs.Prelude.{◌≡◌, ℕ, ◌+◌, ◌*◌, ◌<◌, ◌≤◌, slice_index}
+use Rattle.std.specs.Prelude.{◌≡◌, ℕ, ◌+◌, ◌*◌, ◌<◌, ◌≤◌, slice_index, Option, Some, None}
 use Rattle.std.specs.Int.{bit_at}
 use Rattle.seq_inst.specs.declared.group.Group.{Group}
 use Rattle.seq_inst.specs.declared.ahead.Ahead.{Ahead}
@@ -18,3 +18,8 @@ pub record IsAhead (g : Group) (a : Ahead) (from : ℕ) : Type 0 where
 pub record IsNext (g : Group) (a : Ahead) (from class : ℕ) : Type 0 where
   pub first : IsFirstFrom g from class
   pub after : IsAhead g a (class + 1)
+
+-- the classes ahead of the walk are those after the class at which it stands
+abbrev pub IsAheadOf : Group → Ahead → Option ℕ → Type 0
+IsAheadOf g a None = Unit {0}
+IsAheadOf g a (Some c) = IsAhead g a (c + 1)

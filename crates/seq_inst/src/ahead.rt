@@ -1,9 +1,9 @@
 //! A walk over the classes of a group. It keeps of one word the classes that are left, and takes the lowest
 //! of them; so a class costs a few steps that need not wait for a look at the group, and a word without a
 //! class costs one. `first_from` asks the same of a group from any number on, and starts anew each time.
-ghost use Rattle.std.specs.Prelude.{◌<◌, ℕ, IfSome, IfNone};
-ghost use Rattle.seq_inst.specs.Members.{HasNoneFrom};
-ghost use Rattle.seq_inst.specs.Walks.{IsAhead, IsNext};
+ghost use Rattle.std.specs.Prelude.{◌<◌, ◌≤◌, ℕ, IfSome, IfNone};
+ghost use Rattle.seq_inst.specs.Members.{HasNoneFrom, IsStep};
+ghost use Rattle.seq_inst.specs.Walks.{IsAhead, IsNext, IsAheadOf};
 
 use crate::group::Group;
 
@@ -32,6 +32,8 @@ impl Ahead {
         requires { self.old.place < 8 }
         ensures found { (from : ℕ) → IsAhead group.now self.old from → IfSome result (IsNext group.now self.new from) }
         ensures none { (from : ℕ) → IsAhead group.now self.old from → IfNone result (HasNoneFrom group.now from) }
+        ensures step { (from : ℕ) → from ≤ 512 → IsAhead group.now self.old from → IsStep group.now from result }
+        ensures ahead { (from : ℕ) → IsAhead group.now self.old from → IsAheadOf group.now self.new result }
     {
         while self.word == 0 {
             if self.place >= 7 {

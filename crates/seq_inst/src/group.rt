@@ -2,7 +2,7 @@
 //! of the other, and how many classes a group has take eight steps each.
 ghost use Rattle.std.specs.Prelude.{◌≡◌, ◌<◌, ◌≤◌, length, filter, not, IfSome, IfNone};
 ghost use Rattle.std.specs.List.{list_any};
-ghost use Rattle.seq_inst.specs.Members.{members, has_class, IsFirstFrom, HasNoneFrom};
+ghost use Rattle.seq_inst.specs.Members.{members, has_class, IsFirstFrom, HasNoneFrom, IsStep};
 
 /// A set of classes: class c is bit c % 64 of word c / 64.
 #[derive(Clone, Copy, Debug, PartialEq, Eq)]
@@ -21,6 +21,7 @@ impl Group {
     pub fn first_from(&self, class: u32) -> Option<u32>
         ensures found { IfSome result (IsFirstFrom self.now class) }
         ensures none { IfNone result (HasNoneFrom self.now class) }
+        ensures step { class ≤ 512 → IsStep self.now class result }
     {
         if class >= 512 {
             return None;

@@ -1,7 +1,9 @@
 //! A valid instance: the lists of weights, costs and passing classes, with the fact that a search can
-//! take them kept in the type, so that no function above asks for it again.
+//! take them, and what follows from it for groups, kept in the type, so that no function above asks for it
+//! again.
 ghost use Rattle.std.specs.Prelude.{◌≡◌};
-ghost use Rattle.seq_inst.specs.Valid.{IsValid};
+ghost use Rattle.seq_inst.specs.Valid.{IsValid, problem_from};
+ghost use Rattle.seq_inst.specs.Stands.{InstanceStands};
 
 use crate::group::Group;
 
@@ -12,6 +14,7 @@ pub struct Instance {
     pub costs: Vec<u32>,
     pub passes: Vec<Group>,
     pub ghost valid: { IsValid weights.items costs.items passes.items },
+    pub ghost stands: { InstanceStands (problem_from weights.items costs.items passes.items) },
 }
 
 impl Instance {

@@ -4,6 +4,7 @@
 #![tactic(auto)]
 
 mod ahead;
+mod checked;
 mod costs;
 mod group;
 mod instance;
@@ -14,8 +15,10 @@ mod strategy;
 mod tests;
 mod walks;
 mod weights;
+mod words;
 
 pub use ahead::Ahead;
+pub use checked::checked_holds;
 pub use costs::cost_of;
 pub use group::{Group, count_of};
 pub use instance::Instance;
@@ -24,3 +27,4 @@ pub use parts::{Answer, is_leaf, part, root, splits};
 pub use strategy::{Strategy, ask_first};
 pub use walks::{Walk, walk_of};
 pub use weights::weight_of;
+pub use words::{group_stands, same_words_hold};

@@ -1,7 +1,7 @@
 //! The group of all classes, and how tests divide groups. Everything above a group's words asks these
 //! calls: which part passes a test, whether both parts have a class, and whether a group is an end.
-ghost use Rattle.std.specs.Prelude.{◌≡◌, ◌<◌, vec_len};
-ghost use Rattle.seq_theory.specs.Problem.{all_classes, is_end, splits as is_split};
+ghost use Rattle.std.specs.Prelude.{◌≡◌, ◌<◌, true, length, vec_len};
+ghost use Rattle.seq_theory.specs.Problem.{all_classes, IsWithin, is_end, splits as is_split};
 ghost use Rattle.seq_theory.specs.Graph.{part as part_by};
 ghost use Rattle.seq_inst.specs.Members.{members};
 ghost use Rattle.seq_inst.specs.Instances.{problem_of};
@@ -19,7 +19,8 @@ pub enum Answer {
 
 /// The group of all classes.
 pub fn root(inst: &Instance) -> Group
-    ensures { members result ≡ all_classes (problem_of inst.now) }
+    ensures classes { members result ≡ all_classes (problem_of inst.now) }
+    ensures within { IsWithin (problem_of inst.now) (members result) }
 {
     let mut words = [0; 8];
     let classes = inst.weights.len() as u32;
@@ -33,7 +34,9 @@ pub fn root(inst: &Instance) -> Group
 /// The classes of the group for which the test has this answer.
 pub fn part(inst: &Instance, group: &Group, test: u32, answer: Answer) -> Group
     requires { test < vec_len inst.now.costs }
-    ensures { members result ≡ part_by (problem_of inst.now) test (is_pass answer) (members group.now) }
+    ensures classes { members result ≡ part_by (problem_of inst.now) test (is_pass answer) (members group.now) }
+    ensures within { IsWithin (problem_of inst.now) (members group.now) → IsWithin (problem_of inst.now) (members result) }
+    ensures smaller { is_split (problem_of inst.now) (members group.now) test ≡ true → length (members result) < length (members group.now) }
 {
     let passes = inst.passes[test as usize];
     match answer {

@@ -23,3 +23,8 @@ pub mod GatheredLaws
 pub mod StatesLaws
 pub mod NumberingLaws
 pub mod PassageProofs
+pub mod BelowLaws
+pub mod ShapeLaws
+pub mod CountedLaws
+pub mod GreedyParts
+pub mod RecursionProofs

@@ -20,7 +20,7 @@ module _ (p : Problem) where
     ])
   ]
 
-  low-step : (entered : List (List ℕ)) (group : List ℕ) → low p entered group ≡ low_step p entered (low p entered) group
+  pub low-step : (entered : List (List ℕ)) (group : List ℕ) → low p entered group ≡ low_step p entered (low p entered) group
   low-step entered group = by_parts-step (λ _. Unit {0}) 0 (low_step p entered) (low-local entered) group tt
 
   pub low-end : (entered : List (List ℕ)) (group : List ℕ) → is_end p group ≡ true → low p entered group ≡ 0

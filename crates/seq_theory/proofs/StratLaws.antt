@@ -90,7 +90,7 @@ module _ (p : Problem) (entered : List (List ℕ)) where
     ])
   ]
 
-  strat-step : (group : List ℕ) → HasValue group → strat p entered group ≡ strat_step p entered (strat p entered) group
+  pub strat-step : (group : List ℕ) → HasValue group → strat p entered group ≡ strat_step p entered (strat p entered) group
   strat-step group q = by_parts-step HasValue leaf (strat_step p entered) strat-local group q
 
   -- the strategy is right, and costs the value

@@ -92,7 +92,7 @@ module _ (p : Problem) where
     ])
   ]
 
-  val-step : (entered : List (List ℕ)) (group : List ℕ) → val p entered group ≡ val_step p entered (val p entered) group
+  pub val-step : (entered : List (List ℕ)) (group : List ℕ) → val p entered group ≡ val_step p entered (val p entered) group
   val-step entered group = by_parts-step (λ _. Unit {0}) None (val_step p entered) (val-local entered) group tt
 
   pub val-end : (entered : List (List ℕ)) (group : List ℕ) → is_end p group ≡ true → val p entered group ≡ Some 0

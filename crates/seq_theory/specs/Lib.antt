@@ -13,3 +13,6 @@ pub mod States
 pub mod Gathered
 pub mod PassageLaws
 pub mod Numbering
+pub mod Below
+pub mod Shapes
+pub mod Recursions

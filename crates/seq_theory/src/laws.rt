@@ -1,6 +1,7 @@
 //! The laws of costs, bounds, entered groups, events and certificates. Each holds for every problem,
 //! also where several classes share a goal and so need not be told apart.
 ghost use Rattle.seq_theory.specs.HuffmanLaw.{HuffmanIsLeast, HuffmanIsReached};
+ghost use Rattle.seq_theory.specs.Recursions.{RecursionsHold, SoundRowsHold};
 ghost use Rattle.seq_theory.specs.Laws.{HasLeast, BoundsHold, EnteredHolds, RunsHold, CertificateHolds, WalksHold, LowsAreClaims, ClosesHold, ViewsHold};
 
 /// Huffman's cost of a list of weights is the least weighted path length of a binary tree with one
@@ -20,6 +21,12 @@ pub fn bounds_hold()
     ensures { BoundsHold }
 {}
 
+/// The greedy strategy, low, value and strategy of a group are made from those of its parts, to whatever
+/// depth the parts go.
+pub fn recursions_hold()
+    ensures { RecursionsHold }
+{}
+
 /// Whatever was entered, low is at most the least cost, and the strategy costs the value.
 pub fn entered_holds()
     ensures { EnteredHolds }
@@ -30,6 +37,11 @@ pub fn entered_holds()
 pub fn runs_hold()
     ensures runs { RunsHold }
     ensures views { ViewsHold }
+{}
+
+/// The least cost of the group of each sound row lies between the row's low and its up.
+pub fn sound_rows_hold()
+    ensures { SoundRowsHold }
 {}
 
 /// Where a certificate's claims hold against each other, none is above its group's least cost; and

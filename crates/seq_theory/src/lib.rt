@@ -7,13 +7,16 @@
 //! search and information theory to sequential fault diagnosis" (1990). The bound from Huffman's
 //! cost in whole numbers is this project's own. Everything is stated over plain numbers and lists;
 //! the code's types are read into it by one definition each, in the crates above.
+//!
+//! No edit is tried here, since an edit of a definition shows nothing of a program. What the definitions say
+//! is tried on worked problems, whose numbers were found outside (`proofs/Worked.antt`).
 #![tactic(auto)]
 
 mod laws;
 mod passage;
 
 pub use laws::{
-    bounds_hold, certificate_holds, entered_holds, has_least, huffman_is_least, runs_hold,
-    walks_hold,
+    bounds_hold, certificate_holds, entered_holds, has_least, huffman_is_least, recursions_hold,
+    runs_hold, sound_rows_hold, walks_hold,
 };
 pub use passage::{classes_hold, groups_hold, passage_holds};

@@ -5,6 +5,4 @@ pub mod ValueLaws
 pub mod PlanLaws
 pub mod StandLaws
 pub mod DueLaws
-pub mod ModelNames
-pub mod PathLabels
 pub mod PrintableLaws

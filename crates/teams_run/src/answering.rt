@@ -19,7 +19,6 @@ use crate::preparing::{Prepared, prepare};
 use crate::solving::{Solution, solution_of};
 use crate::status::Status;
 use seq_inst::Verdict;
-use seq_shown::labels_print;
 use sig_classes::classes_of;
 use sig_figures::{figures_of, figures_text};
 use sig_flat::Flat;
@@ -52,13 +51,12 @@ pub fn mode_name(plan: &Plan) -> &str
     mode_word(plan.mode.as_ref())
 }
 
-/// The labels of an accepted model are made of its names, so a report can show them.
+/// The labels of an accepted model are those of its flat model, which a report can show.
 fn accepted_labels_print(plan: &Plan, content: &[u8], flat: &Flat, matrix: &Matrix)
     requires text { IsMatrixOfText content.now plan.now.mode flat.now matrix.now }
     requires valid { IsValid matrix.now }
     ensures { ArePrintable (labels_from matrix.now (mode_word plan.now.mode)) }
 {
-    labels_print();
 }
 
 /// The matrix of the text, in the plan's mode.

@@ -3,7 +3,6 @@ use Rattle.std.proofs.lemmas.List.{get_or_read}
 use Rattle.seq_theory.specs.Problem.{fail_part}
 use Rattle.seq_inst.specs.Members.{members}
 use Rattle.seq_inst.specs.Instances.{problem_of}
-use Rattle.seq_inst.proofs.WithinLaws.{light}
 use Rattle.seq_huff.proofs.BoundFits.{product-le}
 use Rattle.seq_huff.proofs.GreedyCode.{cost-end, greedy_there, greedy_parts, greedy-small}
 use Rattle.seq_huff.specs.Bounds.{greatest_cost}
@@ -42,7 +41,7 @@ greedy_cost-pass-requires t c =
     let p = problem_of c.args.inst.now in
     let xs = members c.args.group.now in
     let e = sym c.is_leaf.ensures ∙ c.if-is_leaf.false in
-    let g = greedy_parts p xs (members c.part-pass_part.result) (fail_part p c.greedy_choice-test.result xs) c.greedy_choice-test.result c.args.inst.now.valid.told c.requires e c.greedy_choice-test.ensures c.part-pass_part.ensures refl in
+    let g = greedy_parts p xs (members c.part-pass_part.result) (fail_part p c.greedy_choice-test.result xs) c.greedy_choice-test.result c.args.inst.now.valid.told c.requires e c.greedy_choice-test.ensures c.part-pass_part.ensures.classes refl in
     let d = c.decreases in
     let s = g.pass_smaller in
     (omega arith, (g.pass_within))
@@ -52,7 +51,7 @@ greedy_cost-fail-requires t c =
     let p = problem_of c.args.inst.now in
     let xs = members c.args.group.now in
     let e = sym c.is_leaf.ensures ∙ c.if-is_leaf.false in
-    let g = greedy_parts p xs (members c.part-pass_part.result) (members c.part-fail_part.result) c.greedy_choice-test.result c.args.inst.now.valid.told c.requires e c.greedy_choice-test.ensures c.part-pass_part.ensures c.part-fail_part.ensures in
+    let g = greedy_parts p xs (members c.part-pass_part.result) (members c.part-fail_part.result) c.greedy_choice-test.result c.args.inst.now.valid.told c.requires e c.greedy_choice-test.ensures c.part-pass_part.ensures.classes c.part-fail_part.ensures.classes in
     let d = c.decreases in
     let s = g.fail_smaller in
     (omega arith, (g.fail_within))
@@ -62,7 +61,7 @@ overflow_mul-result t c =
     let p = problem_of c.args.inst.now in
     let xs = members c.args.group.now in
     let e = sym c.is_leaf.ensures ∙ c.if-is_leaf.false in
-    let g = greedy_parts p xs (members c.part-pass_part.result) (members c.part-fail_part.result) c.greedy_choice-test.result c.args.inst.now.valid.told c.requires e c.greedy_choice-test.ensures c.part-pass_part.ensures c.part-fail_part.ensures in
+    let g = greedy_parts p xs (members c.part-pass_part.result) (members c.part-fail_part.result) c.greedy_choice-test.result c.args.inst.now.valid.told c.requires e c.greedy_choice-test.ensures c.part-pass_part.ensures.classes c.part-fail_part.ensures.classes in
     let there = g.there in
     let n = c.args.inst.now.costs.ok.0 in
     let cost : c.from.result ≡ p.cost c.greedy_choice-test.result = c.from.ensures ∙ get_or_read c.args.inst.now.costs.items c.greedy_choice-test.result c.index.result.now there c.index.ensures 0 in
@@ -71,7 +70,7 @@ overflow_mul-result t c =
     let b = greedy-small c.args.inst.now c.part-fail_part.result g.fail_within in
     let ea = c.greedy_cost-pass.ensures.value in
     let eb = c.greedy_cost-fail.ensures.value in
-    let l = light c.args.inst.now c.args.group.now c.requires in
+    let l = c.args.inst.now.stands.light c.args.group.now c.requires in
     let most = (c.args.inst.now.valid.costs c.greedy_choice-test.result there).1 in
     let m = product-le c.from.result c.weight_of-weight.result 1000000 4097000000 (omega arith) (omega arith) in
     omega arith
@@ -81,7 +80,7 @@ overflow_add-result t c =
     let p = problem_of c.args.inst.now in
     let xs = members c.args.group.now in
     let e = sym c.is_leaf.ensures ∙ c.if-is_leaf.false in
-    let g = greedy_parts p xs (members c.part-pass_part.result) (members c.part-fail_part.result) c.greedy_choice-test.result c.args.inst.now.valid.told c.requires e c.greedy_choice-test.ensures c.part-pass_part.ensures c.part-fail_part.ensures in
+    let g = greedy_parts p xs (members c.part-pass_part.result) (members c.part-fail_part.result) c.greedy_choice-test.result c.args.inst.now.valid.told c.requires e c.greedy_choice-test.ensures c.part-pass_part.ensures.classes c.part-fail_part.ensures.classes in
     let there = g.there in
     let n = c.args.inst.now.costs.ok.0 in
     let cost : c.from.result ≡ p.cost c.greedy_choice-test.result = c.from.ensures ∙ get_or_read c.args.inst.now.costs.items c.greedy_choice-test.result c.index.result.now there c.index.ensures 0 in
@@ -90,7 +89,7 @@ overflow_add-result t c =
     let b = greedy-small c.args.inst.now c.part-fail_part.result g.fail_within in
     let ea = c.greedy_cost-pass.ensures.value in
     let eb = c.greedy_cost-fail.ensures.value in
-    let l = light c.args.inst.now c.args.group.now c.requires in
+    let l = c.args.inst.now.stands.light c.args.group.now c.requires in
     let most = (c.args.inst.now.valid.costs c.greedy_choice-test.result there).1 in
     let m = product-le c.from.result c.weight_of-weight.result 1000000 4097000000 (omega arith) (omega arith) in
     omega arith
@@ -100,7 +99,7 @@ overflow_add-result-2 t c =
     let p = problem_of c.args.inst.now in
     let xs = members c.args.group.now in
     let e = sym c.is_leaf.ensures ∙ c.if-is_leaf.false in
-    let g = greedy_parts p xs (members c.part-pass_part.result) (members c.part-fail_part.result) c.greedy_choice-test.result c.args.inst.now.valid.told c.requires e c.greedy_choice-test.ensures c.part-pass_part.ensures c.part-fail_part.ensures in
+    let g = greedy_parts p xs (members c.part-pass_part.result) (members c.part-fail_part.result) c.greedy_choice-test.result c.args.inst.now.valid.told c.requires e c.greedy_choice-test.ensures c.part-pass_part.ensures.classes c.part-fail_part.ensures.classes in
     let there = g.there in
     let n = c.args.inst.now.costs.ok.0 in
     let cost : c.from.result ≡ p.cost c.greedy_choice-test.result = c.from.ensures ∙ get_or_read c.args.inst.now.costs.items c.greedy_choice-test.result c.index.result.now there c.index.ensures 0 in
@@ -109,7 +108,7 @@ overflow_add-result-2 t c =
     let b = greedy-small c.args.inst.now c.part-fail_part.result g.fail_within in
     let ea = c.greedy_cost-pass.ensures.value in
     let eb = c.greedy_cost-fail.ensures.value in
-    let l = light c.args.inst.now c.args.group.now c.requires in
+    let l = c.args.inst.now.stands.light c.args.group.now c.requires in
     let most = (c.args.inst.now.valid.costs c.greedy_choice-test.result there).1 in
     let m = product-le c.from.result c.weight_of-weight.result 1000000 4097000000 (omega arith) (omega arith) in
     omega arith
@@ -119,7 +118,7 @@ returns t c =
     let p = problem_of c.args.inst.now in
     let xs = members c.args.group.now in
     let e = sym c.is_leaf.ensures ∙ c.if-is_leaf.false in
-    let g = greedy_parts p xs (members c.part-pass_part.result) (members c.part-fail_part.result) c.greedy_choice-test.result c.args.inst.now.valid.told c.requires e c.greedy_choice-test.ensures c.part-pass_part.ensures c.part-fail_part.ensures in
+    let g = greedy_parts p xs (members c.part-pass_part.result) (members c.part-fail_part.result) c.greedy_choice-test.result c.args.inst.now.valid.told c.requires e c.greedy_choice-test.ensures c.part-pass_part.ensures.classes c.part-fail_part.ensures.classes in
     let there = g.there in
     let cost : c.from.result ≡ p.cost c.greedy_choice-test.result = c.from.ensures ∙ get_or_read c.args.inst.now.costs.items c.greedy_choice-test.result c.index.result.now there c.index.ensures 0 in
     let product = ap (λ x. x * c.weight_of-weight.result) cost ∙ ap (λ x. p.cost c.greedy_choice-test.result * x) c.weight_of-weight.ensures in

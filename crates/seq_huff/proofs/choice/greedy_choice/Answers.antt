@@ -1,9 +1,10 @@
 use Rattle.std.proofs.Common.{◌≡◌, ◌∙◌, ◌+◌, sym, ap, arith, subst, refl, Some, None}
 use Rattle.seq_theory.specs.Problem.{splits, splitting}
 use Rattle.seq_theory.specs.Bound.{step_sum, bound}
+use Rattle.seq_theory.proofs.BelowLaws.{passing-zero, passing-in, passing-out, passing-all}
+use Rattle.seq_theory.specs.Below.{passing_below}
 use Rattle.seq_inst.specs.Members.{members}
 use Rattle.seq_inst.specs.Instances.{problem_of}
-use Rattle.seq_huff.proofs.Written.{passing_below, passing-zero, passing-in, passing-out, passing-all}
 use Rattle.seq_huff.proofs.GreedyCode.{ChosenSoFar, chosen-more, chosen-greedy, chosen-some}
 use Rattle.seq_huff.proofs.choice.greedy_choice.Goals as goal
 use Rattle.seq_huff.proofs.choice.greedy_choice.Goals.{then-splits, else-splits}

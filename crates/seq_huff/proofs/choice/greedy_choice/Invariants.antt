@@ -1,8 +1,8 @@
 use Rattle.seq_theory.specs.Problem.{splits}
 use Rattle.seq_theory.specs.Bound.{step_sum, bound}
+use Rattle.seq_theory.specs.Below.{passing_below}
 use Rattle.seq_inst.specs.Members.{members}
 use Rattle.seq_inst.specs.Instances.{problem_of}
-use Rattle.seq_huff.proofs.Written.{passing_below}
 use Rattle.seq_huff.proofs.GreedyCode.{ChosenSoFar}
 use Rattle.seq_huff.proofs.choice.greedy_choice.Given as goal
 

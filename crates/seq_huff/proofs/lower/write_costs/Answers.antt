@@ -1,9 +1,11 @@
 use Rattle.std.proofs.Common.{◌≡◌, ◌∙◌, ◌+◌, sym, ap, arith, length, subst, set, map}
 use Rattle.std.proofs.lemmas.List.{get_or_read}
 use Rattle.seq_theory.specs.Problem.{splits}
+use Rattle.seq_theory.proofs.BelowLaws.{passing-zero, passing-in, passing-out, passing-all, length-passing}
+use Rattle.seq_theory.specs.Below.{passing_below}
 use Rattle.seq_inst.specs.Members.{members}
 use Rattle.seq_inst.specs.Instances.{problem_of}
-use Rattle.seq_huff.proofs.Written.{Written, written-none, written-more, written-same, passing_below, passing-zero, passing-in, passing-out, passing-all, length-passing}
+use Rattle.seq_huff.proofs.Written.{Written, written-none, written-more, written-same}
 use Rattle.seq_huff.proofs.lower.write_costs.Goals as goal
 use Rattle.seq_huff.proofs.lower.write_costs.Goals.{then-splits, else-splits}
 

@@ -1,7 +1,6 @@
 use Rattle.std.proofs.Common.{◌-◌}
-use Rattle.seq_inst.specs.Members.{members_below}
-use Rattle.seq_inst.proofs.FirstLaws.{reached, IsClass}
-use Rattle.seq_inst.proofs.AheadLaws.{IsAheadOf}
+use Rattle.seq_inst.specs.Walks.{IsAheadOf}
+use Rattle.seq_inst.specs.Members.{members_below, reached, IsClass}
 use Rattle.seq_huff.proofs.MassLaws.{MassBelow}
 use Rattle.seq_huff.proofs.mass.mass_of.Given as goal
 

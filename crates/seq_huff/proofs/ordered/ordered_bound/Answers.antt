@@ -2,7 +2,6 @@ use Rattle.std.proofs.Common.{◌∙◌, ◌≤◌, sym, subst, refl, arith}
 use Rattle.seq_theory.specs.Bound.{splitting_costs}
 use Rattle.seq_inst.specs.Members.{members}
 use Rattle.seq_inst.specs.Instances.{problem_of}
-use Rattle.seq_inst.proofs.WithinLaws.{light}
 use Rattle.seq_huff.specs.Bounds.{greatest_cost}
 use Rattle.seq_huff.proofs.BoundFits.{bound-fits, products-fit, bound-is, bound-end, bound-small}
 use Rattle.seq_huff.proofs.LeastBounds.{bound-low}
@@ -18,7 +17,7 @@ pub sum_of-weight-requires : goal.sum_of-weight-requires
 sum_of-weight-requires c =
     let read = read-weights c.args.inst.now c.args.group.now _ c.requires.within c.write_upward-count.ensures.weights in
     let s = read.sums in
-    let l = light c.args.inst.now c.args.group.now c.requires.within in
+    let l = c.args.inst.now.stands.light c.args.group.now c.requires.within in
     omega arith
 
 pub merge_sum-huffman_cost-requires : goal.merge_sum-huffman_cost-requires

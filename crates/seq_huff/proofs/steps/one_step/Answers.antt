@@ -2,9 +2,10 @@ use Rattle.std.proofs.Common.{◌≡◌, ◌∙◌, sym, ap, arith, subst, refl,
 use Rattle.seq_theory.specs.Problem.{splits, splitting}
 use Rattle.seq_theory.specs.Bound.{step_sum, bound}
 use Rattle.seq_theory.proofs.LeastOfLaws.{LeastSoFar, least_so_far-more, least_so_far-all}
+use Rattle.seq_theory.proofs.BelowLaws.{passing-zero, passing-in, passing-out, passing-all}
+use Rattle.seq_theory.specs.Below.{passing_below}
 use Rattle.seq_inst.specs.Members.{members}
 use Rattle.seq_inst.specs.Instances.{problem_of}
-use Rattle.seq_huff.proofs.Written.{passing_below, passing-zero, passing-in, passing-out, passing-all}
 use Rattle.seq_huff.proofs.BoundFits.{one_step-end, one_step-is}
 use Rattle.seq_huff.proofs.GreedyCode.{greedy-small}
 use Rattle.seq_huff.proofs.LeastBounds.{lesser-number, one_step-holds}

@@ -1,16 +1,14 @@
 use Rattle.std.proofs.Common.{◌≡◌, ◌∙◌, ◌<◌, arith}
 use Rattle.std.proofs.lemmas.List.{get_or_read}
-use Rattle.seq_inst.specs.Members.{members}
 use Rattle.seq_inst.specs.Instances.{problem_of}
-use Rattle.seq_inst.proofs.WithinLaws.{within-pass, within-fail}
 use Rattle.seq_huff.proofs.BoundFits.{step-fits}
 use Rattle.seq_huff.proofs.steps.step_sum.Goals as goal
 
 pub bound-pass-requires : goal.bound-pass-requires
-bound-pass-requires c = within-pass (problem_of c.args.inst.now) (members c.args.group.now) (members c.part-pass_part.result) c.args.test c.requires.within c.part-pass_part.ensures
+bound-pass-requires c = c.part-pass_part.ensures.within c.requires.within
 
 pub bound-fail-requires : goal.bound-fail-requires
-bound-fail-requires c = within-fail (problem_of c.args.inst.now) (members c.args.group.now) (members c.part-fail_part.result) c.args.test c.requires.within c.part-fail_part.ensures
+bound-fail-requires c = c.part-fail_part.ensures.within c.requires.within
 
 pub overflow_mul-result : goal.overflow_mul-result
 overflow_mul-result c =
@@ -20,8 +18,8 @@ overflow_mul-result c =
     let there : c.args.test < p.tests = omega arith in
     let cost : c.from.result ≡ p.cost c.args.test = c.from.ensures ∙ get_or_read c.args.inst.now.costs.items c.args.test c.index.result.now there c.index.ensures 0 in
     let f = step-fits c.args.inst.now c.args.group.now c.part-pass_part.result c.part-fail_part.result c.from.result c.args.weight c.bound-pass.result c.bound-fail.result c.args.test c.requires.within
-    (within-pass p (members c.args.group.now) (members c.part-pass_part.result) c.args.test c.requires.within c.part-pass_part.ensures)
-    (within-fail p (members c.args.group.now) (members c.part-fail_part.result) c.args.test c.requires.within c.part-fail_part.ensures)
+    (c.part-pass_part.ensures.within c.requires.within)
+    (c.part-fail_part.ensures.within c.requires.within)
     there cost c.requires.weight c.bound-pass.ensures.value c.bound-fail.ensures.value in
     let a = f.0 in
     let b = f.1 in
@@ -36,8 +34,8 @@ overflow_add-result c =
     let there : c.args.test < p.tests = omega arith in
     let cost : c.from.result ≡ p.cost c.args.test = c.from.ensures ∙ get_or_read c.args.inst.now.costs.items c.args.test c.index.result.now there c.index.ensures 0 in
     let f = step-fits c.args.inst.now c.args.group.now c.part-pass_part.result c.part-fail_part.result c.from.result c.args.weight c.bound-pass.result c.bound-fail.result c.args.test c.requires.within
-    (within-pass p (members c.args.group.now) (members c.part-pass_part.result) c.args.test c.requires.within c.part-pass_part.ensures)
-    (within-fail p (members c.args.group.now) (members c.part-fail_part.result) c.args.test c.requires.within c.part-fail_part.ensures)
+    (c.part-pass_part.ensures.within c.requires.within)
+    (c.part-fail_part.ensures.within c.requires.within)
     there cost c.requires.weight c.bound-pass.ensures.value c.bound-fail.ensures.value in
     let a = f.0 in
     let b = f.1 in
@@ -52,8 +50,8 @@ overflow_add-result-2 c =
     let there : c.args.test < p.tests = omega arith in
     let cost : c.from.result ≡ p.cost c.args.test = c.from.ensures ∙ get_or_read c.args.inst.now.costs.items c.args.test c.index.result.now there c.index.ensures 0 in
     let f = step-fits c.args.inst.now c.args.group.now c.part-pass_part.result c.part-fail_part.result c.from.result c.args.weight c.bound-pass.result c.bound-fail.result c.args.test c.requires.within
-    (within-pass p (members c.args.group.now) (members c.part-pass_part.result) c.args.test c.requires.within c.part-pass_part.ensures)
-    (within-fail p (members c.args.group.now) (members c.part-fail_part.result) c.args.test c.requires.within c.part-fail_part.ensures)
+    (c.part-pass_part.ensures.within c.requires.within)
+    (c.part-fail_part.ensures.within c.requires.within)
     there cost c.requires.weight c.bound-pass.ensures.value c.bound-fail.ensures.value in
     let a = f.0 in
     let b = f.1 in

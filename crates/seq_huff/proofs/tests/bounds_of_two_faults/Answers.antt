@@ -1,21 +1,19 @@
-use Rattle.seq_inst.specs.Instances.{problem_of}
-use Rattle.seq_inst.proofs.RootLaws.{within-all}
 use Rattle.seq_huff.proofs.tests.bounds_of_two_faults.Goals as goal
 
 pub huffman-requires : goal.huffman-requires
-huffman-requires g c = within-all (problem_of c.in_ok-inst.inst) _ c.root-all.ensures
+huffman-requires g c = c.root-all.ensures.within
 
 pub bound-requires : goal.bound-requires
-bound-requires g c = within-all (problem_of c.in_ok-inst.inst) _ c.root-all.ensures
+bound-requires g c = c.root-all.ensures.within
 
 pub one_step-requires : goal.one_step-requires
-one_step-requires g c = within-all (problem_of c.in_ok-inst.inst) _ c.root-all.ensures
+one_step-requires g c = c.root-all.ensures.within
 
 pub greedy_cost-requires : goal.greedy_cost-requires
-greedy_cost-requires g c = within-all (problem_of c.in_ok-inst.inst) _ c.root-all.ensures
+greedy_cost-requires g c = c.root-all.ensures.within
 
 pub greedy-requires : goal.greedy-requires
-greedy-requires g c = within-all (problem_of c.in_ok-inst.inst) _ c.root-all.ensures
+greedy-requires g c = c.root-all.ensures.within
 
 pub cost_of-requires-clause-within : goal.cost_of-requires-clause-within
-cost_of-requires-clause-within g c = within-all (problem_of c.in_ok-inst.inst) _ c.root-all.ensures
+cost_of-requires-clause-within g c = c.root-all.ensures.within

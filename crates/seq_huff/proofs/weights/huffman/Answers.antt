@@ -10,5 +10,6 @@ huffman_of-requires c = weights-fit c.args.inst.now c.args.group.now _ c.require
 
 pub returns : goal.returns
 returns c =
-    let value = c.huffman_of.ensures ∙ ap huff (c.write_weights-count.ensures.weights ∙ sym (goal_weights-members c.args.inst.now c.args.group.now c.requires)) in
-    record { value = value; least = huffman-undercuts _ c.huffman_of.result value }
+    let weights = goal_weights-members c.args.inst.now c.args.group.now c.requires in
+    let value = c.huffman_of.ensures ∙ ap huff (c.write_weights-count.ensures.weights ∙ sym weights) in
+    record { value = value; weights = weights; least = huffman-undercuts _ c.huffman_of.result value }

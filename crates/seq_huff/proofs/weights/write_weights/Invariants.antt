@@ -1,7 +1,6 @@
 use Rattle.std.proofs.Common.{◌-◌}
-use Rattle.seq_inst.specs.Members.{members_below}
+use Rattle.seq_inst.specs.Members.{members_below, reached, IsClass}
 use Rattle.seq_inst.specs.Instances.{problem_of}
-use Rattle.seq_inst.proofs.FirstLaws.{reached, IsClass}
 use Rattle.seq_huff.proofs.Written.{Written}
 use Rattle.seq_huff.proofs.weights.write_weights.Given as goal
 

@@ -1,5 +1,8 @@
 use Rattle.std.proofs.Common.{◌≡◌, ◌∙◌, ap, arith, length}
 use Rattle.seq_theory.specs.Problem.{count_up}
+use Rattle.seq_theory.proofs.BelowLaws.{within-all}
+use Rattle.seq_inst.specs.Members.{members}
+use Rattle.seq_inst.specs.Instances.{problem_of}
 use Rattle.seq_inst.proofs.RootLaws.{below-more, members-from_below}
 use Rattle.seq_inst.proofs.parts.root.Goals as goal
 
@@ -14,4 +17,5 @@ returns c =
     let n = c.len-classes.ensures ∙ c.args.inst.now.weights.ok.0 in
     let few = c.args.inst.now.valid.few in
     let e : c.loop-class.class ≡ length c.args.inst.now.weights.items = omega arith in
-    members-from_below c.loop-class.words c.loop-class.class (omega arith) c.loop-class.invariant ∙ ap (count_up 0) e
+    let all = members-from_below c.loop-class.words c.loop-class.class (omega arith) c.loop-class.invariant ∙ ap (count_up 0) e in
+    record { classes = all; within = within-all (problem_of c.args.inst.now) (members (record { 0 = c.loop-class.words })) all }

@@ -4,7 +4,8 @@ use Rattle.std.proofs.lemmas.List.{get_or_read}
 use Rattle.seq_theory.specs.Problem.{weight_of}
 use Rattle.seq_inst.specs.Members.{members_below}
 use Rattle.seq_inst.specs.Instances.{problem_of}
-use Rattle.seq_inst.proofs.FirstLaws.{IsClass, reached, found-by, found-class, first-members}
+use Rattle.seq_inst.specs.Members.{IsClass, reached}
+use Rattle.seq_inst.proofs.FirstLaws.{found-by, found-class, first-members}
 use Rattle.seq_inst.proofs.PartsLaws.{weight-members_below, weight-members_below-in, weight-next, class-within}
 use Rattle.seq_inst.proofs.weights.weight_of.Goals as goal
 

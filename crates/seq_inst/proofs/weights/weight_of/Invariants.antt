@@ -2,7 +2,7 @@ use Rattle.std.proofs.Common.{◌≡◌, ◌-◌}
 use Rattle.seq_theory.specs.Problem.{weight_of}
 use Rattle.seq_inst.specs.Members.{members_below}
 use Rattle.seq_inst.specs.Instances.{problem_of}
-use Rattle.seq_inst.proofs.FirstLaws.{reached, IsClass}
+use Rattle.seq_inst.specs.Members.{reached, IsClass}
 use Rattle.seq_inst.proofs.weights.weight_of.Given as goal
 
 abbrev pub invariant-loop-next : goal.invariant-loop-next

@@ -9,8 +9,8 @@ links_of_model-requires-clause-inners c = subst (AreInners c.args.model.now c.ar
 pub placed_of_model-requires-clause-inners : goal.placed_of_model-requires-clause-inners
 placed_of_model-requires-clause-inners c = subst (AreInners c.args.model.now c.args.survey.now.sizes.items) (sym c.as_slice-inside.ensures.value) c.in_ok-inners.ensures
 
-pub returns : goal.returns
-returns c =
+pub returns-clause-placing : goal.returns-clause-placing
+returns-clause-placing c =
     let i : AreInners c.args.model.now c.args.survey.now.sizes.items c.as_slice-inside.result.now = subst (AreInners c.args.model.now c.args.survey.now.sizes.items) (sym c.as_slice-inside.ensures.value) c.in_ok-inners.ensures in
-    subst (λ p. IsPlacing c.args.model.now p c.in_ok-links.links.items) (sym c.in_ok-placed.ensures)
+    subst (λ p. IsPlacing c.args.model.now p c.in_ok-links.links.items) (sym c.in_ok-placed.ensures.placed)
     (is-placing c.args.model.now c.requires.known c.requires.within c.args.survey.now.sizes.items c.requires.survey.sizes c.as_slice-inside.result.now i.long i.nested c.in_ok-links.links.items c.in_ok-links.ensures.long c.in_ok-links.ensures.each)
