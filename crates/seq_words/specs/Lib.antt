@@ -4,4 +4,5 @@ pub mod Knowledge
 pub mod Rule
 pub mod Plays
 pub mod Seats
+pub mod Laws
 pub mod Closing

@@ -14,10 +14,10 @@ ghost use Rattle.teams_run.specs.Solved.{IsSolution, Stands, IsLimit};
 
 use crate::preparing::Prepared;
 use seq_cert::report_of;
-use seq_finish::outcomes_hold;
+use seq_finish::{finish_graph, outcomes_hold};
 use seq_inst::{Instance, Outcome, Verdict};
 use seq_shown::{outcomes_print, reports_hold};
-use seq_solo::outcome_alone;
+use seq_solo::{Walked, walk};
 use seq_theory::{classes_hold, has_least, passage_holds};
 use sig_matrix::Matrix;
 use std::alloc::{AllocError, Global};
@@ -56,7 +56,8 @@ pub fn solution_of(
     requires limit { IsLimit groups }
     ensures { IfOk result (λ s. IsSolution (system_of matrix.now) (labels_from matrix.now mode.now) groups s.verdict s.text.items) }
 {
-    let outcome = outcome_alone(alloc, &prepared.inst, groups)?;
+    let Walked { graph, missed } = walk(alloc, &prepared.inst, groups)?;
+    let outcome = finish_graph(alloc, &prepared.inst, groups, graph, missed)?;
     outcome_stands(matrix, &prepared.inst, &outcome, groups);
     reports_hold();
     outcomes_print();
