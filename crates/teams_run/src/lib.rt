@@ -9,7 +9,6 @@ mod due;
 mod judging;
 mod plan;
 mod preparing;
-mod pushing;
 mod refusing;
 mod running;
 mod solving;
