@@ -11,7 +11,7 @@ use Rattle.sig_flat.specs.declared.flat.Flat.{Flat}
 use Rattle.sig_flat.specs.Flats.{IsFlatOf}
 use Rattle.sig_matrix.specs.declared.matrix.Matrix.{Matrix}
 use Rattle.sig_matrix.specs.Detection.{IsMatrixOf, state_count, system_of}
-use Rattle.seq_cert.specs.Text.{verdict_word}
+use Rattle.seq_inst.specs.Verdicts.{verdict_word}
 use Rattle.teams_run.specs.Solved.{IsSolved}
 
 -- the chain as it is once it is checked, with `normal` as its one mode

@@ -24,7 +24,7 @@ use sig_flat::Flat;
 use sig_matrix::{Matrix, matrix_of, matrix_text};
 use sig_types::{ModelFault, Text};
 use std::alloc::{AllocError, Global};
-use teams_words::{Action, Action, Plan, Plan};
+use teams_words::{Action, Plan};
 
 /// The flat model and the matrix that the bytes of a text lead to.
 #[derive(Drop)]

@@ -8,7 +8,6 @@ mod answering;
 mod due;
 mod judging;
 mod preparing;
-mod pushing;
 mod refusing;
 mod running;
 mod sampling;

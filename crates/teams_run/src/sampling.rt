@@ -9,14 +9,13 @@ ghost use Rattle.sig_flat.specs.Flats.{IsFlatOf};
 ghost use Rattle.sig_flat.specs.Valid.{IsValid as IsValidFlat};
 ghost use Rattle.sig_matrix.specs.Valid.{IsValid};
 ghost use Rattle.sig_matrix.specs.Detection.{IsMatrixOf, system_of};
-ghost use Rattle.seq_cert.specs.Text.{verdict_word};
 ghost use Rattle.teams_words.specs.Plans.{IsSize, IsProper};
 ghost use Rattle.teams_run.specs.Samples.{chain_model, summary_lines};
 ghost use Rattle.teams_run.specs.Runs.{IsDueOfChain};
 
 use crate::due::Due;
 use crate::solving::outcome_of;
-use seq_inst::{Instance, Outcome, Verdict};
+use seq_inst::{Instance, Outcome};
 use sig_classes::{classes_of, instance_of};
 use sig_flat::{Flat, flatten};
 use sig_lines::Lines;
@@ -67,16 +66,6 @@ fn chain_is_small(parts: u32, flat: &Flat, matrix: &Matrix)
     ensures { length (firsts (system_of matrix.now)) ≤ 512 }
 {}
 
-/// The word of a verdict.
-fn verdict_word(verdict: Verdict) -> &'static str
-    ensures { result.now ≡ verdict_word verdict }
-{
-    match verdict {
-        Verdict::Optimal => "optimal",
-        Verdict::Bounded => "bounded",
-    }
-}
-
 /// Writes the lines of the summary.
 fn write_summary(
     out: &mut Lines,
@@ -93,7 +82,7 @@ fn write_summary(
     out.number_line("states", u64::from(matrix.states()))?;
     out.number_line("classes", inst.weights.len() as u64)?;
     out.number_line("tests", matrix.tests.len() as u64)?;
-    out.line(&["result", verdict_word(outcome.verdict)])?;
+    out.line(&["result", outcome.verdict.word()])?;
     out.number_line("cost", outcome.cost)?;
     out.number_line("low", outcome.low)?;
     out.number_line("groups", outcome.rows.len() as u64)?;
