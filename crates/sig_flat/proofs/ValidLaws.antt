@@ -43,7 +43,7 @@ each-at f n (x ∷ xs) e (suc i) d lt =
     let s : n + suc i ≡ suc n + i = omega arith in
     rw s (each-at f (suc n) xs ((both-empty (f n x) (each_from (suc n) f xs) e).1) i d (omega arith))
 
-each-of : {X Y : Type 0} (f : ℕ → X → List Y) (xs : List X) (x : X) → each f xs ≡ [] → Contains xs x → (i : ℕ) × (f i x ≡ [])
+pub each-of : {X Y : Type 0} (f : ℕ → X → List Y) (xs : List X) (x : X) → each f xs ≡ [] → Contains xs x → (i : ℕ) × (f i x ≡ [])
 each-of f xs x e (i, lt, at) = (0 + i, subst (λ y. f (0 + i) y ≡ []) at (each-at f 0 xs e i x lt))
 
 not-false : (v : Bool) → not v ≡ false → v ≡ true
