@@ -1,5 +1,6 @@
 pub mod Mapping
 pub mod RowsOf
+pub mod Entered
 pub mod WorthOf
 pub mod Words
 pub mod Numbered

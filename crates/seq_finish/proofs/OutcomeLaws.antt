@@ -30,7 +30,8 @@ use Rattle.seq_inst.proofs.ShapeLaws.{leaves-le, height-lt-leaves}
 use Rattle.seq_finish.proofs.StratLaws.{the-value, strat-splitting}
 use Rattle.seq_core.specs.RowsOf.{row_of as row_from, rows_of as rows_from}
 use Rattle.seq_core.specs.Settled.{groups_in, value_or, AreGroups, settled_row, settled_rows}
-use Rattle.seq_finish.specs.Entered.{IsFull, MayStop}
+use Rattle.seq_core.specs.Entered.{IsFull, MayStop}
+use Rattle.seq_graph.specs.Listed.{listed}
 use Rattle.seq_finish.specs.Outcomes.{AreEntered, IsSettled, IsRightOutcome}
 use Rattle.seq_finish.specs.Laws.{OutcomesHold}
 
@@ -85,6 +86,34 @@ module _ (p : Problem) where
     goals = λ r i. (s.real r i).goals;
   }
 
+  length-rows : (rows : List Row) → length (rows_from rows) ≡ length rows
+  length-rows [] = refl
+  length-rows (r ∷ rest) = ap suc (length-rows rest)
+
+  pub rows-few : (limit : ℕ) (rows : List Row) → IsSound p limit (rows_from rows) → length rows ≤ limit
+  rows-few limit rows s = let few = s.few in let l = length-rows rows in omega arith
+
+  -- sound rows are so under each limit that is not below their number
+  pub sound-within : (limit : ℕ) (rows : List Row) → IsSound p (length rows) (rows_from rows) → length rows ≤ limit → IsSound p limit (rows_from rows)
+  sound-within limit rows s le = let few = s.few in record { few = omega arith; distinct = s.distinct; real = s.real; lows = s.lows; ups = s.ups }
+
+  -- ---- rows that are listed afresh ----
+
+  pub listed-entered : (rows : List Row) → groups_in (listed p rows) ≡ groups_in rows
+  listed-entered [] = refl
+  listed-entered (r ∷ rest) = ap (λ l. members r.group ∷ l) (listed-entered rest)
+
+  pub listed-length : (rows : List Row) → length (listed p rows) ≡ length rows
+  listed-length [] = refl
+  listed-length (r ∷ rest) = ap suc (listed-length rest)
+
+  settled-listed : (other : List (List ℕ)) (rows : List Row) → map (settled_row p other) (listed p rows) ≡ map (settled_row p other) rows
+  settled-listed other [] = refl
+  settled-listed other (r ∷ rest) = ap (λ l. settled_row p other r ∷ l) (settled-listed other rest)
+
+  pub listed-settled : (rows : List Row) → settled_rows p (listed p rows) ≡ settled_rows p rows
+  listed-settled rows = ap (λ g. map (settled_row p g) (listed p rows)) (listed-entered rows) ∙ settled-listed (groups_in rows) rows
+
   -- ---- settled rows ----
 
   settled-same : (other : List (List ℕ)) (rows : List Row) → groups_in (map (settled_row p other) rows) ≡ groups_in rows
@@ -93,10 +122,6 @@ module _ (p : Problem) where
 
   pub settled-entered : (rows : List Row) → groups_in (settled_rows p rows) ≡ groups_in rows
   settled-entered rows = settled-same (groups_in rows) rows
-
-  length-rows : (rows : List Row) → length (rows_from rows) ≡ length rows
-  length-rows [] = refl
-  length-rows (r ∷ rest) = ap suc (length-rows rest)
 
   length-settled : (other : List (List ℕ)) (rows : List Row) → length (map (settled_row p other) rows) ≡ length rows
   length-settled other [] = refl

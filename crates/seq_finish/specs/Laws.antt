@@ -17,5 +17,9 @@ pub record OutcomeStands (p : Problem) (o : Outcome) (least : ℕ) : Type 0 wher
   pub optimal : o.verdict ≡ Optimal → least ≡ o.cost
   pub bounded : o.verdict ≡ Bounded → o.low < o.cost
 
+-- so it is, whatever the least cost is
+abbrev pub Stands : Problem → Outcome → Type 0
+Stands p o = (least : ℕ) → IsLeast p (all_classes p) least → OutcomeStands p o least
+
 abbrev pub OutcomesHold : Type 0
 OutcomesHold = (p : Problem) (limit least : ℕ) (o : Outcome) → IsWeighed p → AreTold p → IsRightOutcome p limit o → IsLeast p (all_classes p) least → OutcomeStands p o least

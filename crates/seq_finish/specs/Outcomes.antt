@@ -10,7 +10,7 @@ use Rattle.seq_inst.specs.declared.outcome.Outcome.{Outcome}
 use Rattle.seq_inst.specs.Members.{members}
 use Rattle.seq_inst.specs.Trees.{tree_of}
 use Rattle.seq_core.specs.Settled.{groups_in}
-use Rattle.seq_finish.specs.Entered.{IsFull}
+use Rattle.seq_core.specs.Entered.{IsFull}
 
 -- the groups are distinct, real, at most so many, and the group of all classes is one of them where it is no end
 pub record AreEntered (p : Problem) (limit : ℕ) (rows : List Row) : Type 0 where

@@ -1,5 +1,5 @@
 //! The outcome of a search's rows.
-ghost use Rattle.std.specs.Prelude.{◌≡◌, ◌≤◌, ◌↔◌, false, true, IfOk, None, vec_len};
+ghost use Rattle.std.specs.Prelude.{◌≡◌, ◌≤◌, ◌↔◌, false, true, length, IfOk, None, vec_len};
 ghost use Rattle.seq_theory.specs.Problem.{all_classes, is_end};
 ghost use Rattle.seq_theory.specs.Tree.{AsksOnly};
 ghost use Rattle.seq_theory.specs.Graph.{is_entered, low, val};
@@ -8,15 +8,17 @@ ghost use Rattle.seq_inst.specs.Instances.{problem_of};
 ghost use Rattle.seq_inst.specs.Members.{members};
 ghost use Rattle.seq_inst.specs.Trees.{tree_of};
 ghost use Rattle.seq_inst.specs.Shapes.{height, leaf_count, AsksSplitting};
-ghost use Rattle.seq_core.specs.Numbered.{AreNumbers};
 ghost use Rattle.seq_core.specs.RowsOf.{rows_of as rows_from};
 ghost use Rattle.seq_core.specs.Settled.{groups_in, settled_rows};
-ghost use Rattle.seq_finish.specs.Entered.{MayStop};
+ghost use Rattle.seq_core.specs.Entered.{MayStop};
+ghost use Rattle.seq_graph.specs.Numbered.{AreNumbers};
+ghost use Rattle.seq_graph.specs.Known.{IsKnown};
 ghost use Rattle.seq_finish.specs.Outcomes.{AreEntered, IsRightOutcome};
+ghost use Rattle.seq_finish.specs.Laws.{Stands};
 
 use crate::places::{bounds_of, index_of};
 use crate::strategy::strategy_of;
-use seq_core::{Numbers, settle};
+use seq_graph::{Graph, Numbers, settle};
 use seq_huff::Scratch;
 use seq_inst::{Group, Instance, Outcome, Row, Verdict, root};
 use std::alloc::{AllocError, Global};
@@ -58,22 +60,50 @@ pub fn finish(
     ensures right { IfOk result (IsRightOutcome (problem_of inst.now) limit) }
     ensures rows { IfOk result (λ o. o.rows.items ≡ settled_rows (problem_of inst.now) rows.items) }
     ensures missed { IfOk result (λ o. o.verdict ≡ Verdict.Bounded → o.missed ≡ missed) }
+    ensures stands { IfOk result (Stands (problem_of inst.now)) }
     ensures proper { IfOk result (λ o. o.low ≤ o.cost) }
     ensures there { IfOk result (λ o. AsksOnly (problem_of inst.now).tests (tree_of o.strategy)) }
     ensures splitting { IfOk result (λ o. AsksSplitting (problem_of inst.now) (tree_of o.strategy) (all_classes (problem_of inst.now))) }
     ensures leaves { IfOk result (λ o. leaf_count (tree_of o.strategy) ≤ vec_len inst.now.weights) }
     ensures short { IfOk result (λ o. height (tree_of o.strategy) ≤ 512) }
 {
-    let numbers = Numbers::new(alloc, inst)?;
     let mut scratch = Scratch::new();
-    let rows = settle(alloc, &mut scratch, inst, &numbers, rows.as_slice())?;
-    finish_settled(alloc, inst, numbers, limit, rows, missed)
+    let graph = Graph::of_rows(alloc, &mut scratch, inst, rows.as_slice())?;
+    finish_graph(alloc, inst, limit, graph, missed)
 }
 
-/// The outcome of a search that has settled its rows itself: each has the low and the value that the
-/// entered groups give it. Greedy's costs and tests that the search has worked out are taken from its
-/// numbers, and only others are worked out here.
-pub fn finish_settled(
+/// The outcome of a search that holds this graph: what `finish` makes of its rows. The graph settles them by
+/// what it holds beside them, which costs a fraction of settling them afresh.
+pub fn finish_graph(
+    alloc: Global,
+    inst: &Instance,
+    limit: u32,
+    mut graph: Graph,
+    missed: Option<Group>,
+) -> Result<Outcome, AllocError>
+    requires known { IsKnown (problem_of inst.now) graph }
+    requires few { length graph.rows.items ≤ limit }
+    requires root { is_end (problem_of inst.now) (all_classes (problem_of inst.now)) ≡ false → is_entered (groups_in graph.rows.items) (all_classes (problem_of inst.now)) ≡ true }
+    requires stopped { MayStop (problem_of inst.now) limit (groups_in graph.rows.items) missed }
+    ensures right { IfOk result (IsRightOutcome (problem_of inst.now) limit) }
+    ensures rows { IfOk result (λ o. o.rows.items ≡ settled_rows (problem_of inst.now) graph.rows.items) }
+    ensures missed { IfOk result (λ o. o.verdict ≡ Verdict.Bounded → o.missed ≡ missed) }
+    ensures stands { IfOk result (Stands (problem_of inst.now)) }
+    ensures proper { IfOk result (λ o. o.low ≤ o.cost) }
+    ensures there { IfOk result (λ o. AsksOnly (problem_of inst.now).tests (tree_of o.strategy)) }
+    ensures splitting { IfOk result (λ o. AsksSplitting (problem_of inst.now) (tree_of o.strategy) (all_classes (problem_of inst.now))) }
+    ensures leaves { IfOk result (λ o. leaf_count (tree_of o.strategy) ≤ vec_len inst.now.weights) }
+    ensures short { IfOk result (λ o. height (tree_of o.strategy) ≤ 512) }
+{
+    let mut scratch = Scratch::new();
+    settle(alloc, &mut scratch, inst, &mut graph)?;
+    finish_settled(alloc, inst, graph.numbers, limit, graph.rows, missed)
+}
+
+/// The outcome of settled rows: each has the low and the value that the entered groups give it. Greedy's
+/// costs and tests that the search has worked out are taken from its numbers, and only others are worked
+/// out here.
+fn finish_settled(
     alloc: Global,
     inst: &Instance,
     mut numbers: Numbers,
@@ -89,6 +119,7 @@ pub fn finish_settled(
     ensures right { IfOk result (IsRightOutcome (problem_of inst.now) limit) }
     ensures rows { IfOk result (λ o. o.rows.items ≡ rows.items) }
     ensures missed { IfOk result (λ o. o.verdict ≡ Verdict.Bounded → o.missed ≡ missed) }
+    ensures stands { IfOk result (Stands (problem_of inst.now)) }
     ensures proper { IfOk result (λ o. o.low ≤ o.cost) }
     ensures there { IfOk result (λ o. AsksOnly (problem_of inst.now).tests (tree_of o.strategy)) }
     ensures splitting { IfOk result (λ o. AsksSplitting (problem_of inst.now) (tree_of o.strategy) (all_classes (problem_of inst.now))) }

@@ -14,5 +14,5 @@ mod laws;
 mod places;
 mod strategy;
 
-pub use ending::{finish, finish_settled};
+pub use ending::{finish, finish_graph};
 pub use laws::outcomes_hold;

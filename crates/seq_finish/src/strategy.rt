@@ -9,13 +9,14 @@ ghost use Rattle.seq_theory.specs.Graph.{val, is_value, step_value, value_test a
 ghost use Rattle.seq_inst.specs.Members.{members};
 ghost use Rattle.seq_inst.specs.Instances.{problem_of};
 ghost use Rattle.seq_inst.specs.Trees.{tree_of};
-ghost use Rattle.seq_core.specs.Numbered.{AreNumbers};
+ghost use Rattle.seq_graph.specs.Numbered.{AreNumbers};
 ghost use Rattle.seq_core.specs.Tables.{numbered};
 ghost use Rattle.seq_core.specs.Settled.{groups_in};
 ghost use Rattle.seq_finish.specs.Outcomes.{IsSettled};
 
 use crate::places::value_of;
-use seq_core::{Numbers, Places};
+use seq_core::Places;
+use seq_graph::Numbers;
 use seq_huff::Scratch;
 use seq_inst::{
     Answer, Group, Instance, Row, Strategy, ask_first, is_leaf, part, splits, weight_of,

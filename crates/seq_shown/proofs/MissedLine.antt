@@ -10,7 +10,7 @@ use Rattle.seq_inst.specs.declared.group.Group.{Group}
 use Rattle.seq_inst.specs.declared.outcome.Verdict.{Verdict}
 use Rattle.seq_inst.specs.declared.outcome.Verdict.TheVariants.{Optimal, Bounded}
 use Rattle.seq_inst.specs.Members.{members}
-use Rattle.seq_finish.specs.Entered.{IsFull, IsMissed}
+use Rattle.seq_core.specs.Entered.{IsFull, IsMissed}
 use Rattle.seq_cert.specs.declared.report.GroupLine.{GroupLine}
 use Rattle.seq_cert.specs.OutcomeReport.{missed_line}
 use Rattle.seq_check.specs.Looks.{AreGood}

@@ -12,7 +12,7 @@ use Rattle.seq_inst.specs.Shapes.{leaf_count, AsksSplitting}
 use Rattle.seq_inst.specs.Trees.{tree_of}
 use Rattle.seq_inst.proofs.ShapeLaws.{leaves-le}
 use Rattle.seq_core.specs.Settled.{groups_in}
-use Rattle.seq_finish.specs.Entered.{IsFull, IsMissed}
+use Rattle.seq_core.specs.Entered.{IsFull, IsMissed}
 use Rattle.seq_finish.specs.Outcomes.{IsRightOutcome}
 use Rattle.seq_finish.proofs.StratLaws.{strat-splitting}
 use Rattle.seq_cert.specs.Printable.{IsMissedAt}

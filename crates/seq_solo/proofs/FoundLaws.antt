@@ -17,13 +17,13 @@ use Rattle.seq_inst.specs.Members.{members}
 use Rattle.seq_inst.specs.Instances.{problem_of}
 use Rattle.seq_core.specs.RowsOf.{row_of as row_from, rows_of as rows_from}
 use Rattle.seq_core.specs.Settled.{groups_in}
-use Rattle.seq_finish.specs.Entered.{MayStop}
-use Rattle.seq_finish.proofs.OutcomeLaws.{row-among, row-entered}
-use Rattle.seq_solo.specs.Known.{AreRows, no_row, row_at, group_at, Narrows, IsClosedAt}
-use Rattle.seq_solo.specs.Walks.{HasMoved, IsStopped, HasTurned}
+use Rattle.seq_core.specs.Entered.{MayStop}
+use Rattle.seq_graph.proofs.RowLaws.{row-among, row-entered}
+use Rattle.seq_graph.specs.Known.{AreRows, no_row, row_at, group_at, Narrows, IsClosedAt}
+use Rattle.seq_graph.specs.Walks.{HasMoved, IsStopped, HasTurned}
 use Rattle.seq_solo.specs.Found.{BeginsWithAll, IsSolved, IsFull, HasEnded}
-use Rattle.seq_solo.proofs.KnownLaws.{row-real, row-within}
-use Rattle.seq_solo.proofs.EventLaws.{length-Narrows, group-Narrows}
+use Rattle.seq_graph.proofs.KnownLaws.{row-real, row-within}
+use Rattle.seq_graph.proofs.EventLaws.{length-Narrows, group-Narrows}
 
 -- a walk under way: the rows are known, the first is that of all classes, and there are no more than the limit allows
 pub record IsWalking (p : Problem) (limit : ℕ) (rows : List Row) : Type 0 where

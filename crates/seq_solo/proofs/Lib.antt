@@ -1,17 +1,1 @@
-pub mod KnownLaws
-pub mod PlaceLaws
-pub mod NumberLaws
-pub mod CountLaws
-pub mod CountChanges
-pub mod SplitLaws
-pub mod ChoiceLaws
-pub mod CoverLaws
-pub mod CapLaws
-pub mod WaitingLaws
-pub mod EventLaws
-pub mod TightenLaws
-pub mod LookLaws
-pub mod SettleLaws
-pub mod OpenLaws
-pub mod StepLaws
 pub mod FoundLaws

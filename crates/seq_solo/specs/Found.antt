@@ -7,7 +7,7 @@ use Rattle.seq_inst.specs.declared.group.Group.{Group}
 use Rattle.seq_inst.specs.declared.outcome.Row.{Row}
 use Rattle.seq_inst.specs.Members.{members}
 use Rattle.seq_core.specs.RowsOf.{rows_of as rows_from}
-use Rattle.seq_solo.specs.Known.{row_at, group_at, IsClosedAt}
+use Rattle.seq_graph.specs.Known.{row_at, group_at, IsClosedAt}
 
 -- the first row is that of the group of all classes, unless all classes have one goal; then there is no row
 pub record BeginsWithAll (p : Problem) (rows : List Row) : Type 0 where

@@ -1,10 +1,1 @@
-pub mod Counts
-pub mod Sums
-pub mod Known
-pub mod Looks
-pub mod Settling
-pub mod Choice
-pub mod Parts
-pub mod Steps
-pub mod Walks
 pub mod Found

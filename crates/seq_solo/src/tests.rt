@@ -1,8 +1,9 @@
-//! Worked walks, and the outcomes that are made from them.
+//! Worked walks: the rows that they end with, and the group that found no room.
 
-use crate::{Found, outcome_alone, solve_alone};
-use seq_finish::finish;
-use seq_inst::{Group, Instance, Verdict, cost_of, root};
+use crate::{Found, Walked, solve_alone, walk};
+use seq_graph::settle;
+use seq_huff::Scratch;
+use seq_inst::{Group, Instance, root};
 use std::alloc::{AllocError, Global};
 use std::test::Fail;
 
@@ -79,12 +80,9 @@ fn two_faults_need_one_group(rt: HostRuntime) -> Result<(), Fail> {
     let alloc = rt.alloc();
     let inst = two_faults(alloc)?;
     let Found { rows, missed } = solve_alone(alloc, &inst, 4096)?;
-    assert_eq!(rt; rows.len(), 1);
     assert!(rt; missed.is_none());
-    let outcome = outcome_alone(alloc, &inst, 4096)?;
-    assert_eq!(rt; outcome.verdict, Verdict::Optimal);
-    assert_eq!(rt; outcome.cost, 27);
-    assert_eq!(rt; cost_of(&inst, &outcome.strategy, &root(&inst)), 27);
+    assert_eq!(rt; rows.len(), 1);
+    assert_eq!(rt; (rows[0].low, rows[0].up), (27, 27));
     Ok(())
 }
 
@@ -92,16 +90,11 @@ fn two_faults_need_one_group(rt: HostRuntime) -> Result<(), Fail> {
 fn a_star_within_four_groups(rt: HostRuntime) -> Result<(), Fail> {
     let alloc = rt.alloc();
     let inst = star(alloc)?;
-    let outcome = outcome_alone(alloc, &inst, 4)?;
-    assert_eq!(rt; outcome.verdict, Verdict::Bounded);
-    assert_eq!(rt; outcome.cost, 14);
-    assert_eq!(rt; outcome.low, 13);
-    assert!(rt; outcome.missed == Some(Group([15, 0, 0, 0, 0, 0, 0, 0])));
-    assert_eq!(rt; outcome.rows.len(), 4);
-    for row in outcome.rows.iter() {
-        let all = row.group == Group([31, 0, 0, 0, 0, 0, 0, 0]);
-        assert_eq!(rt; row.low, if all { 13 } else { 9 });
-    }
+    let Found { rows, missed } = solve_alone(alloc, &inst, 4)?;
+    assert!(rt; missed == Some(Group([15, 0, 0, 0, 0, 0, 0, 0])));
+    assert_eq!(rt; rows.len(), 4);
+    assert!(rt; rows[0].group == root(&inst));
+    assert_eq!(rt; (rows[0].low, rows[0].up), (13, 14));
     Ok(())
 }
 
@@ -109,13 +102,10 @@ fn a_star_within_four_groups(rt: HostRuntime) -> Result<(), Fail> {
 fn a_star_within_five_groups(rt: HostRuntime) -> Result<(), Fail> {
     let alloc = rt.alloc();
     let inst = star(alloc)?;
-    let Found { missed, .. } = solve_alone(alloc, &inst, 5)?;
+    let Found { rows, missed } = solve_alone(alloc, &inst, 5)?;
     assert!(rt; missed.is_none());
-    let outcome = outcome_alone(alloc, &inst, 5)?;
-    assert_eq!(rt; outcome.verdict, Verdict::Optimal);
-    assert_eq!(rt; outcome.cost, 14);
-    assert_eq!(rt; outcome.low, 14);
-    assert_eq!(rt; outcome.rows.len(), 5);
+    assert_eq!(rt; rows.len(), 5);
+    assert_eq!(rt; (rows[0].low, rows[0].up), (14, 14));
     Ok(())
 }
 
@@ -123,46 +113,28 @@ fn a_star_within_five_groups(rt: HostRuntime) -> Result<(), Fail> {
 fn two_halves_within_two_groups(rt: HostRuntime) -> Result<(), Fail> {
     let alloc = rt.alloc();
     let inst = two_halves(alloc)?;
-    let outcome = outcome_alone(alloc, &inst, 2)?;
-    assert_eq!(rt; outcome.verdict, Verdict::Bounded);
-    assert_eq!(rt; outcome.cost, 26);
-    assert_eq!(rt; outcome.low, 25);
-    assert!(rt; outcome.missed == Some(Group([240, 0, 0, 0, 0, 0, 0, 0])));
-    assert_eq!(rt; outcome.rows.len(), 2);
-    assert!(rt; outcome.rows[1].group == Group([15, 0, 0, 0, 0, 0, 0, 0]));
-    assert_eq!(rt; outcome.rows[1].low, 9);
+    let Found { rows, missed } = solve_alone(alloc, &inst, 2)?;
+    assert!(rt; missed == Some(Group([240, 0, 0, 0, 0, 0, 0, 0])));
+    assert_eq!(rt; rows.len(), 2);
+    assert_eq!(rt; (rows[0].low, rows[0].up), (25, 26));
+    assert!(rt; rows[1].group == Group([15, 0, 0, 0, 0, 0, 0, 0]));
+    assert_eq!(rt; rows[1].low, 9);
     Ok(())
 }
 
-/// The walk meets its limit with rows that are behind what they allow together. Settled they show the
-/// least cost, whether the search settles them or `finish` does.
+/// The walk meets its limit with rows that are behind what they allow together: so settled they show the
+/// least cost.
 #[test]
 fn crossed_within_seven_groups(rt: HostRuntime) -> Result<(), Fail> {
     let alloc = rt.alloc();
     let inst = crossed(alloc)?;
-    let Found { rows, missed } = solve_alone(alloc, &inst, 7)?;
+    let Walked { graph, missed } = walk(alloc, &inst, 7)?;
     assert!(rt; missed.is_some());
-    let outcome = outcome_alone(alloc, &inst, 7)?;
-    assert_eq!(rt; outcome.verdict, Verdict::Optimal);
-    assert!(rt; outcome.missed.is_none());
-    let mut low_behind = false;
-    let mut up_behind = false;
-    for (walked, settled) in rows.iter().zip(outcome.rows.iter()) {
-        assert!(rt; walked.group == settled.group);
-        low_behind = low_behind || walked.low < settled.low;
-        up_behind = up_behind || walked.up > settled.up;
-    }
-    assert!(rt; low_behind);
-    assert!(rt; up_behind);
-    let afresh = finish(alloc, &inst, 7, rows, missed)?;
-    assert_eq!(rt; afresh.verdict, Verdict::Optimal);
-    assert_eq!(rt; afresh.cost, outcome.cost);
-    assert_eq!(rt; afresh.rows.len(), outcome.rows.len());
-    for (row, other) in afresh.rows.iter().zip(outcome.rows.iter()) {
-        assert!(rt; row.group == other.group);
-        assert_eq!(rt; row.low, other.low);
-        assert_eq!(rt; row.up, other.up);
-    }
+    assert_eq!(rt; graph.rows.len(), 7);
+    assert!(rt; graph.rows[0].low < graph.rows[0].up);
+    let mut settled = graph;
+    settle(alloc, &mut Scratch::new(), &inst, &mut settled)?;
+    assert_eq!(rt; settled.rows[0].low, settled.rows[0].up);
     Ok(())
 }
 
@@ -170,10 +142,8 @@ fn crossed_within_seven_groups(rt: HostRuntime) -> Result<(), Fail> {
 fn one_class_needs_no_group(rt: HostRuntime) -> Result<(), Fail> {
     let alloc = rt.alloc();
     let inst = one_class(alloc)?;
-    let Found { rows, missed, .. } = solve_alone(alloc, &inst, 1)?;
+    let Found { rows, missed } = solve_alone(alloc, &inst, 1)?;
     assert_eq!(rt; rows.len(), 0);
-    let outcome = finish(alloc, &inst, 1, rows, missed)?;
-    assert_eq!(rt; outcome.verdict, Verdict::Optimal);
-    assert_eq!(rt; outcome.cost, 0);
+    assert!(rt; missed.is_none());
     Ok(())
 }

@@ -1,5 +1,5 @@
 -- What a shelf in memory holds, and what its calls change.
-use Rattle.std.specs.Prelude.{◌≡◌, ◌≢◌, ℕ, List, [], ◌∷◌, Option, Some, None, Contains, string_bytes, if◌then◌else◌}
+use Rattle.std.specs.Prelude.{◌≡◌, ◌≢◌, ℕ, List, [], ◌∷◌, Option, Some, None, Contains, length, drop, min, string_bytes, if◌then◌else◌}
 use Rattle.std.specs.Str.{bytes_eq}
 use Rattle.sig_edge.specs.Causes.{one_more}
 use Rattle.sig_edge.specs.declared.memory_shelf.File.{File}
@@ -33,6 +33,11 @@ shelf_failing shelf = shelf.fail.items
 -- the number of its next call is among those that are to fail
 abbrev pub FailsNext : MemShelf → Type 0
 FailsNext shelf = Contains (shelf_failing shelf) (one_more (shelf_calls shelf))
+
+-- a read from `at` on gives as many bytes as the file still has and the buffer takes
+abbrev pub FillsFrom : Option (List ℕ) → ℕ → List ℕ → ℕ → Type 0
+FillsFrom None at into n = ⊥
+FillsFrom (Some bytes) at into n = n ≡ min (length into) (length (drop at bytes))
 
 -- the shelf holds nothing, was never read, and is to fail at these calls
 pub record IsNewShelf (shelf : MemShelf) (fail : List ℕ) : Type 0 where

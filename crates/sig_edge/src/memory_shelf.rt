@@ -1,9 +1,9 @@
 //! A shelf in memory, for tests and for laws about whole runs: it tells its files, and fails at just the calls that it was told
 //! to fail at. The newest file stands first, so that a look-up finds a file that was added in place of an older one.
 
-ghost use Rattle.std.specs.Prelude.{◌≡◌, ◌↔◌, ◌≤◌, ◌+◌, ◌<◌, ℕ, List, Some, option_map, length, IsOk, IfOk, OnOk, OnErr, IsErrOf};
+ghost use Rattle.std.specs.Prelude.{◌≡◌, ◌↔◌, ◌≤◌, ◌+◌, ◌<◌, ℕ, List, Some, option_map, length, drop, min, IsOk, IfOk, OnOk, OnErr, IsErrOf};
 ghost use Rattle.sig_edge.specs.Shelf.{IsPart, ReadsAt, HasShelfCause};
-ghost use Rattle.sig_edge.specs.MemShelf.{found, content_of, shelf_faults, shelf_misses, FailsNext, IsNewShelf, KeepsCounts, AddsFile, read_once, failed_once, missed_once};
+ghost use Rattle.sig_edge.specs.MemShelf.{found, content_of, shelf_faults, shelf_misses, FailsNext, FillsFrom, IsNewShelf, KeepsCounts, AddsFile, read_once, failed_once, missed_once};
 
 use crate::shelf::{Shelf, ShelfFault};
 use std::alloc::{AllocError, Global};
@@ -41,6 +41,7 @@ fn find<'a>(files: &'a [File], name: &str) -> Option<&'a [u8]>
 fn copy_part(bytes: &[u8], at: u64, into: &mut [u8]) -> usize
     ensures part { IsPart bytes.now at into.new result }
     ensures bound { result ≤ length into.new }
+    ensures count { result ≡ min (length into.new) (length (drop at bytes.now)) }
 {
     if at >= bytes.len() as u64 {
         return 0;
@@ -93,6 +94,9 @@ impl Shelf for MemShelf {
         ensures bytes { ReadsAt (Some (content_of self.old)) name.now at into.new result }
         ensures same { Some (content_of self.new) ≡ Some (content_of self.old) }
         ensures cause { HasShelfCause (shelf_faults self.old) (shelf_faults self.new) (shelf_misses self.old) (shelf_misses self.new) result }
+
+        // It gives what there is, as far as there is room.
+        ensures count { IfOk result (λ n. FillsFrom (content_of self.old name.now) at into.new n) }
 
         // It fails at just the calls that are to fail, and then changes nothing but the counts.
         ensures fails { (result ≡ Err ShelfFault.Failed) ↔ FailsNext self.old }

@@ -1,11 +1,11 @@
 //! Figures whose texts are known: of a loop of two parts, and of tests that see the same or nothing.
 
-ghost use Rattle.std.specs.Prelude.{◌≡◌, ◌≤◌, ◌&&◌, nat_lt, nat_le, length, IsTrue, IfOk};
+ghost use Rattle.std.specs.Prelude.{◌≡◌, ◌≤◌, ◌&&◌, nat_eq, nat_lt, nat_le, length, IsTrue, IfOk};
 ghost use Rattle.std.specs.List.{list_all};
 ghost use Rattle.sig_flat.specs.declared.flat.FlatLink.{FlatLink};
 ghost use Rattle.sig_flat.specs.declared.flat.Fault.{Fault};
 ghost use Rattle.sig_flat.specs.declared.flat.FlatTest.{FlatTest};
-ghost use Rattle.sig_flat.specs.Valid.{IsValid};
+ghost use Rattle.sig_types.specs.LabelText.{is_label};
 
 use crate::{figures_of, figures_text};
 use sig_classes::classes_of;
@@ -24,6 +24,7 @@ const ALIKE: &[u8] =
 fn link(from: u32, to: u32) -> FlatLink
     ensures from { result.from ≡ from }
     ensures to { result.to ≡ to }
+    ensures modes { result.modes.0 ≡ 1 }
 {
     FlatLink {
         from,
@@ -32,7 +33,9 @@ fn link(from: u32, to: u32) -> FlatLink
     }
 }
 
-fn node(alloc: Global, path: &str, kind: NodeKind) -> Result<Node, AllocError> {
+fn node(alloc: Global, path: &str, kind: NodeKind) -> Result<Node, AllocError>
+    ensures { IfOk result (λ node. node.path ≡ path.now) }
+{
     Ok(Node {
         path: Text::of(alloc, path)?,
         kind,
@@ -43,6 +46,7 @@ fn node(alloc: Global, path: &str, kind: NodeKind) -> Result<Node, AllocError> {
 fn fault(alloc: Global, node: u32, weight: u32, label: &str) -> Result<Fault, AllocError>
     ensures node { IfOk result (λ fault. fault.node ≡ node) }
     ensures weight { IfOk result (λ fault. fault.weight ≡ weight) }
+    ensures label { IfOk result (λ fault. fault.label ≡ label.now) }
 {
     Ok(Fault {
         node,
@@ -57,6 +61,7 @@ fn test(alloc: Global, node: u32, label: &str) -> Result<FlatTest, AllocError>
     ensures node { IfOk result (λ test. test.node ≡ node) }
     ensures cost { IfOk result (λ test. test.cost ≡ 1) }
     ensures mode { IfOk result (λ test. test.mode ≡ 0) }
+    ensures label { IfOk result (λ test. test.label ≡ label.now) }
 {
     Ok(FlatTest {
         node,
@@ -77,12 +82,13 @@ fn two_parts(
 ) -> Result<Flat, AllocError>
     requires heavy { (1 ≤ heavy) × (heavy ≤ 1000000) }
     requires few_links { length links ≤ 32768 }
-    requires ends { IsTrue (list_all (λ (l : FlatLink). nat_lt l.from 4 && nat_lt l.to 4) links) }
+    requires ends { IsTrue (list_all (λ (l : FlatLink). nat_lt l.from 4 && (nat_lt l.to 4 && nat_eq l.modes.0 1)) links) }
     requires few_tests { length tests ≤ 256 }
     requires points { IsTrue (list_all (λ (t : FlatTest). (nat_lt t.node 4 && nat_lt t.mode 1) && (nat_le 1 t.cost && nat_le t.cost 1000000)) tests) }
-    ensures valid { IfOk result IsValid }
-    ensures modes { IfOk result (λ flat. length flat.modes ≡ 1) }
+    requires labels { IsTrue (list_all (λ (t : FlatTest). is_label t.label) tests) }
+    ensures { IfOk result (λ flat. length flat.modes ≡ 1) }
 {
+    let _normal = normal.as_bytes();
     let mut modes = List::new(alloc);
     modes.push(normal)?;
     let mut nodes = List::new(alloc);

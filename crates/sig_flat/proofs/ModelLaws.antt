@@ -1,12 +1,17 @@
 -- From the walk and the copies to the flat model: the items of all instances, in their order.
 use Rattle.std.proofs.Common.{◌≡◌, ℕ, zero, suc, ◌+◌, ◌<◌, ◌≤◌, ◌^◌, List, [], length, get_or, refl, sym, ap, ◌∙◌, arith, subst, inl, inr, Bool, true, false}
-use Rattle.std.specs.Prelude.{map, slice_get, slice_index_or, Option, Some, None, ◌⊎◌, nat_eq, ◌&&◌}
-use Rattle.std.specs.List.{AllZip, Contains, flat_map}
+use Rattle.std.specs.Prelude.{map, slice_get, slice_index_or, Option, Some, None, ◌⊎◌, nat_eq, nat_lt, ◌&&◌}
+use Rattle.std.specs.List.{AllZip, Contains, flat_map, list_any}
+use Rattle.std.proofs.lemmas.Bool.{and_parts, ltb-true}
 use Rattle.std.proofs.lemmas.List.{length-map}
 use Rattle.sig_types.specs.declared.model.Model.{Model}
 use Rattle.sig_types.specs.declared.model.Block.{Block}
 use Rattle.sig_types.specs.declared.refusals.Counted.{Counted}
-use Rattle.sig_flat.specs.declared.flat.Flat.{Flat}
+use Rattle.sig_types.specs.Sets.{has_bit}
+use Rattle.sig_flat.specs.declared.flat.Node.{Node}
+use Rattle.sig_flat.specs.declared.flat.FlatLink.{FlatLink}
+use Rattle.sig_flat.specs.declared.flat.Fault.{Fault}
+use Rattle.sig_flat.specs.declared.flat.FlatTest.{FlatTest}
 use Rattle.sig_flat.specs.declared.pattern.Pattern.{Pattern}
 use Rattle.sig_flat.specs.declared.links.LinkPattern.{LinkPattern}
 use Rattle.sig_flat.specs.declared.inner.Inner.{Inner}
@@ -16,12 +21,13 @@ use Rattle.sig_flat.specs.Counts.{limited, first_over, has_no_state, refusal_aft
 use Rattle.sig_flat.specs.Sizes.{size, in_word}
 use Rattle.sig_flat.specs.Resolved.{block_at}
 use Rattle.sig_flat.specs.Places.{own_names}
-use Rattle.sig_flat.specs.Flats.{IsPlace, IsModeOf, IsNodeOf, IsLinkOf, IsFaultOf, IsTestOf, IsFlatOf}
-use Rattle.sig_flat.specs.Valid.{IsValid}
-use Rattle.sig_flat.specs.Known.{use_names, IsKnown}
+use Rattle.sig_flat.specs.Flats.{IsPlace, IsModeOf, IsNodeOf, IsLinkOf, IsFaultOf, IsTestOf, IsSetOf, alive_modes}
+use Rattle.sig_flat.specs.FlatLists.{AreValid}
+use Rattle.sig_flat.specs.Words.{place_among}
+use Rattle.sig_flat.specs.Known.{use_names, IsKnown, AreNames}
 use Rattle.sig_flat.specs.Patterns.{pattern_of}
 use Rattle.sig_flat.specs.Layouts.{inners_from, link_pattern}
-use Rattle.sig_flat.specs.Placed.{placed_at, StartsFit, node_copy, link_copy, fault_copy, test_copy, node_copies, link_copies, fault_copies, test_copies, no_pattern, WeightsFit, CostsFit}
+use Rattle.sig_flat.specs.Placed.{placed_at, StartsFit, node_copy, link_copy, fault_copy, test_copy, node_copies, link_copies, fault_copies, test_copies, no_pattern, WeightsFit, CostsFit, NodesLabelled, FaultsLabelled, TestsLabelled}
 use Rattle.sig_flat.specs.Surveys.{numbers_of, top_of, own_of, patterns_of_model, IsPlacing}
 use Rattle.sig_flat.proofs.PlaceLaws.{path_of}
 use Rattle.sig_flat.proofs.EndLaws.{get-below, zip-length}
@@ -133,21 +139,23 @@ module _ (model : Model) (known : IsKnown model) (accepted : flat_refusal model 
           subst (λ (l : List LinkPattern). AllZip (IsLinkOf model) (own_links i) (map (link_copy p) l)) (sym (each p.block ip.there))
           (links-copied model known sizes sized inners long nested i p ip (is-within model accepted).nodes)
 
--- a flat model of the definition is a valid one
-pub is-valid : (model : Model) → IsKnown model → 1 ≤ length model.modes → flat_refusal model ≡ None → (flat : Flat) → IsFlatOf model flat → model.good ≤ 1000000 → WeightsFit flat.faults → CostsFit flat.tests → IsValid flat
-is-valid model known some accepted flat is good weights costs =
+-- the lists of a flat model of the definition are valid
+pub are-valid : (model : Model) → IsKnown model → 1 ≤ length model.modes → flat_refusal model ≡ None
+    → (good : ℕ) (modes : List (List ℕ)) (ns : List Node) (ls : List FlatLink) (fs : List Fault) (ts : List FlatTest)
+    → good ≡ model.good → modes ≡ model.modes → AllZip (IsNodeOf model) (nodes model) ns → AllZip (IsLinkOf model) (links model) ls → AllZip (IsFaultOf model) (faults model) fs → AllZip (IsTestOf model) (tests model) ts
+    → model.good ≤ 1000000 → WeightsFit fs → CostsFit ts → AreNames modes → NodesLabelled ns → FaultsLabelled fs → TestsLabelled ts → AreValid good modes ns ls fs ts
+are-valid model known some accepted good modes ns ls fs ts same_good same_modes are_nodes are_links are_faults are_tests good_fits weights costs names node_labels fault_labels test_labels =
     let w = is-within model accepted in
-    let modes = ap length is.modes in
-    let n = zip-length (IsNodeOf model) (nodes model) flat.nodes is.nodes in
-    let l = zip-length (IsLinkOf model) (links model) flat.links is.links in
-    let f = zip-length (IsFaultOf model) (faults model) flat.faults is.faults in
-    let t = zip-length (IsTestOf model) (tests model) flat.tests is.tests in
+    let m = ap length same_modes in
+    let n = zip-length (IsNodeOf model) (nodes model) ns are_nodes in
+    let l = zip-length (IsLinkOf model) (links model) ls are_links in
+    let f = zip-length (IsFaultOf model) (faults model) fs are_faults in
+    let t = zip-length (IsTestOf model) (tests model) ts are_tests in
     let few = known.modes in
     let wn = w.nodes in
     let wl = w.links in
     let wf = w.faults in
     let wt = w.tests in
-    let g = is.good in
     record {
       modes = (omega arith, omega arith);
       nodes = omega arith;
@@ -156,23 +164,34 @@ is-valid model known some accepted flat is good weights costs =
       tests = omega arith;
       good = omega arith;
       link_ends = λ link i.
-          let z = zip-partner (IsLinkOf model) (links model) flat.links link is.links i in
+          let z = zip-partner (IsLinkOf model) (links model) ls link are_links i in
           (in-nodes z.0.from link.from n z.1.from, in-nodes z.0.to link.to n z.1.to);
+      link_modes = λ link i mode on.
+          let z = zip-partner (IsLinkOf model) (links model) ls link are_links i in
+          let below = set-below model.modes (alive_modes model.modes z.0.modes) link.modes.0 z.1.modes mode on in
+          omega arith;
       fault_parts = λ fault i.
-          let z = zip-partner (IsFaultOf model) (faults model) flat.faults fault is.faults i in
+          let z = zip-partner (IsFaultOf model) (faults model) fs fault are_faults i in
           (in-nodes z.0.part fault.node n z.1.node, (weights fault i).0, (weights fault i).1);
       test_points = λ test i.
-          let z = zip-partner (IsTestOf model) (tests model) flat.tests test is.tests i in
+          let z = zip-partner (IsTestOf model) (tests model) ts test are_tests i in
           (in-nodes z.0.point test.node n z.1.node, in-modes z.0.mode test.mode z.1.mode, (costs test i).0, (costs test i).1);
-      state = kept (has-state model accepted) g f;
+      state = kept (has-state model accepted) same_good f;
+      mode_names = names;
+      node_labels = node_labels;
+      fault_labels = fault_labels;
+      test_labels = test_labels;
     }
   where
-    in-nodes : (path : Path) (k : ℕ) → length (nodes model) ≡ length flat.nodes → IsPlace model path k → k < length flat.nodes
+    in-nodes : (path : Path) (k : ℕ) → length (nodes model) ≡ length ns → IsPlace model path k → k < length ns
     in-nodes path k n e = let below = get-below (map path_of (nodes model)) k path e in let len = length-map (nodes model) path_of in omega arith
 
-    in-modes : (mode : Option (List ℕ)) (k : ℕ) → IsModeOf model mode k → k < length flat.modes
-    in-modes None k e = let same = ap length is.modes in omega arith
-    in-modes (Some name) k e = let below = get-below model.modes k name e in let same = ap length is.modes in omega arith
+    in-modes : (mode : Option (List ℕ)) (k : ℕ) → IsModeOf model mode k → k < length modes
+    in-modes None k e = let same = ap length same_modes in omega arith
+    in-modes (Some name) k e = let below = get-below model.modes k name e in let same = ap length same_modes in omega arith
 
-    kept : (1 ≤ model.good) ⊎ (1 ≤ length (faults model)) → flat.good ≡ model.good → length (faults model) ≡ length flat.faults → (1 ≤ flat.good) ⊎ (1 ≤ length flat.faults)
-    kept h g f = elim h [ inl a ↦ inl (omega arith) | inr b ↦ inr (omega arith) ]
+    set-below : (all names : List (List ℕ)) (word : ℕ) → IsSetOf all names word → (k : ℕ) → has_bit word k ≡ true → k < length all
+    set-below all names word is k on = ltb-true k (length all) (and_parts (nat_lt k (length all)) (list_any (λ name. nat_eq (place_among all name) k) names) (sym (is k) ∙ on)).0
+
+    kept : (1 ≤ model.good) ⊎ (1 ≤ length (faults model)) → good ≡ model.good → length (faults model) ≡ length fs → 1 ≤ good + length fs
+    kept h g f = elim h [ inl a ↦ omega arith | inr b ↦ omega arith ]

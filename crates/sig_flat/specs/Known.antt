@@ -1,5 +1,5 @@
 -- What the names of a model without breach name.
-use Rattle.std.specs.Prelude.{ℕ, ◌<◌, ◌≤◌, List, map, length, Option, Some, None}
+use Rattle.std.specs.Prelude.{◌≡◌, true, ℕ, ◌<◌, ◌≤◌, List, map, length, Option, Some, None}
 use Rattle.std.specs.List.{Contains}
 use Rattle.sig_types.specs.declared.model.Model.{Model}
 use Rattle.sig_types.specs.declared.model.Block.{Block}
@@ -8,6 +8,7 @@ use Rattle.sig_types.specs.declared.model.Point.{Point}
 use Rattle.sig_types.specs.declared.model.Test.{Test}
 use Rattle.sig_types.specs.declared.model.Link.{Link}
 use Rattle.sig_types.specs.Breaches.{block_names, block_of_use}
+use Rattle.sig_types.specs.NameText.{is_name}
 use Rattle.sig_flat.specs.Instances.{block_named}
 use Rattle.sig_flat.specs.Resolved.{block_at}
 use Rattle.sig_flat.specs.Places.{own_names}
@@ -22,6 +23,10 @@ EndIsKnown blocks block first None = place_among (own_names block) first < lengt
 EndIsKnown blocks block first (Some port) =
     (place_among (use_names block) first < length (use_names block))
     × (place_among (block_named blocks (block_of_use block.uses first)).ports port < length (block_named blocks (block_of_use block.uses first)).ports)
+
+-- each of the texts is a name
+abbrev pub AreNames : List (List ℕ) → Type 0
+AreNames names = (name : List ℕ) → Contains names name → is_name name ≡ true
 
 abbrev pub ModeIsKnown : List (List ℕ) → Option (List ℕ) → Type 0
 ModeIsKnown modes None = Unit {0}

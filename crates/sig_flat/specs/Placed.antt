@@ -1,6 +1,7 @@
 -- The instances of a model as the walk writes them down.
-use Rattle.std.specs.Prelude.{ℕ, zero, suc, ◌+◌, ◌^◌, ◌<◌, ◌≤◌, cond, List, [], ◌∷◌, ◌++◌, map, slice_index_or}
-use Rattle.std.specs.List.{Contains, flat_map}
+use Rattle.std.specs.Prelude.{◌≡◌, true, ℕ, zero, suc, ◌+◌, ◌^◌, ◌<◌, ◌≤◌, cond, List, [], ◌∷◌, ◌++◌, map, slice_index_or}
+use Rattle.std.specs.List.{Contains, flat_map, list_all}
+use Rattle.sig_types.specs.LabelText.{is_label, is_label_byte}
 use Rattle.sig_flat.specs.declared.flat.Node.{Node}
 use Rattle.sig_flat.specs.declared.flat.FlatLink.{FlatLink}
 use Rattle.sig_flat.specs.declared.flat.Fault.{Fault}
@@ -72,6 +73,25 @@ FaultsFit p faults = (fault : FaultPattern) → Contains faults fault → p.star
 
 abbrev pub TestsFit : Placed → List TestPattern → Type 0
 TestsFit p tests = (test : TestPattern) → Contains tests test → p.start + test.at < 2 ^ 32
+
+-- what stands before the names of an instance's items can be shown
+
+abbrev pub IsShown : List ℕ → Type 0
+IsShown text = list_all is_label_byte text ≡ true
+
+abbrev pub PrefixesShown : List Placed → Type 0
+PrefixesShown placed = (p : Placed) → Contains placed p → IsShown p.prefix
+
+-- the copies have labels
+
+abbrev pub NodesLabelled : List Node → Type 0
+NodesLabelled nodes = (node : Node) → Contains nodes node → is_label node.path ≡ true
+
+abbrev pub FaultsLabelled : List Fault → Type 0
+FaultsLabelled faults = (fault : Fault) → Contains faults fault → is_label fault.label ≡ true
+
+abbrev pub TestsLabelled : List FlatTest → Type 0
+TestsLabelled tests = (test : FlatTest) → Contains tests test → is_label test.label ≡ true
 
 -- weights and costs are in their ranges
 

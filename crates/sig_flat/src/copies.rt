@@ -1,9 +1,10 @@
 //! The flat items: for each instance a copy of its block's pattern, with the prefix of the instance before
 //! the names, and the number of its first node added to the places.
-ghost use Rattle.std.specs.Prelude.{◌≡◌, ◌+◌, ◌^◌, ◌<◌, ◌≤◌, ◌++◌, cond, map, length, slice_index_or, [], OnOk, IfOk};
+ghost use Rattle.std.specs.Prelude.{◌≡◌, ◌+◌, ◌^◌, ◌<◌, ◌≤◌, ◌++◌, true, cond, map, length, slice_index_or, [], OnOk, IfOk};
 ghost use Rattle.std.specs.List.{Contains, flat_map};
 ghost use Rattle.sig_flat.specs.declared.walk.Placed.{Placed};
-ghost use Rattle.sig_flat.specs.Placed.{node_copy, link_copy, fault_copy, test_copy, node_copies, link_copies, fault_copies, test_copies, no_pattern, LinksFit, FaultsFit, TestsFit, WeightsFit, CostsFit};
+ghost use Rattle.sig_flat.specs.Placed.{node_copy, link_copy, fault_copy, test_copy, node_copies, link_copies, fault_copies, test_copies, no_pattern, LinksFit, FaultsFit, TestsFit, WeightsFit, CostsFit, IsShown, PrefixesShown, NodesLabelled, FaultsLabelled, TestsLabelled};
+ghost use Rattle.sig_types.specs.LabelText.{is_label};
 
 use crate::flat::{Fault, FlatLink, FlatTest, Node};
 use crate::links::LinkPattern;
@@ -13,7 +14,9 @@ use sig_types::{List, Text};
 use std::alloc::{AllocError, Global};
 
 fn copy_of_node(alloc: Global, placed: &Placed, node: &NodePattern) -> Result<Node, AllocError>
-    ensures { IfOk result (λ copy. copy ≡ node_copy placed.now node.now) }
+    requires { IsShown placed.now.prefix }
+    ensures copy { IfOk result (λ copy. copy ≡ node_copy placed.now node.now) }
+    ensures label { IfOk result (λ copy. is_label copy.path ≡ true) }
 {
     let prefix = placed.prefix.as_str();
     let name = node.name.as_str();
@@ -31,7 +34,9 @@ fn copy_nodes(
     patterns: &[NodePattern],
     nodes: &mut List<Node>,
 ) -> Result<(), AllocError>
-    ensures { OnOk result (nodes.new ≡ nodes.old ++ map (node_copy placed.now) patterns.now) }
+    requires { IsShown placed.now.prefix }
+    ensures nodes { OnOk result (nodes.new ≡ nodes.old ++ map (node_copy placed.now) patterns.now) }
+    ensures labels { OnOk result (NodesLabelled nodes.old → NodesLabelled nodes.new) }
 {
     for node in patterns {
         nodes.push(copy_of_node(alloc, placed, node)?)?;
@@ -45,8 +50,10 @@ pub fn nodes_of_all(
     patterns: &[Pattern],
     placed: &[Placed],
 ) -> Result<List<Node>, AllocError>
-    requires { (p : Placed) → Contains placed.now p → p.block < length patterns.now }
-    ensures { IfOk result (λ nodes. nodes ≡ flat_map (node_copies patterns.now) placed.now) }
+    requires there { (p : Placed) → Contains placed.now p → p.block < length patterns.now }
+    requires shown { PrefixesShown placed.now }
+    ensures nodes { IfOk result (λ nodes. nodes ≡ flat_map (node_copies patterns.now) placed.now) }
+    ensures labels { IfOk result NodesLabelled }
 {
     let mut nodes = List::new(alloc);
     for instance in placed {
@@ -108,9 +115,11 @@ fn letter_of(general: bool) -> char
 }
 
 fn copy_of_fault(alloc: Global, placed: &Placed, fault: &FaultPattern) -> Result<Fault, AllocError>
-    requires { placed.now.start + fault.now.at < 2 ^ 32 }
+    requires at { placed.now.start + fault.now.at < 2 ^ 32 }
+    requires shown { IsShown placed.now.prefix }
     ensures copy { IfOk result (λ copy. copy ≡ fault_copy placed.now fault.now) }
     ensures weight { IfOk result (λ copy. (1 ≤ copy.weight) × (copy.weight ≤ 1000000)) }
+    ensures label { IfOk result (λ copy. is_label copy.label ≡ true) }
 {
     let prefix = placed.prefix.as_str();
     let part = fault.part.as_str();
@@ -131,9 +140,11 @@ fn copy_faults(
     patterns: &[FaultPattern],
     faults: &mut List<Fault>,
 ) -> Result<(), AllocError>
-    requires { FaultsFit placed.now patterns.now }
+    requires fit { FaultsFit placed.now patterns.now }
+    requires shown { IsShown placed.now.prefix }
     ensures faults { OnOk result (faults.new ≡ faults.old ++ map (fault_copy placed.now) patterns.now) }
     ensures weights { OnOk result (WeightsFit faults.old → WeightsFit faults.new) }
+    ensures labels { OnOk result (FaultsLabelled faults.old → FaultsLabelled faults.new) }
 {
     for fault in patterns {
         faults.push(copy_of_fault(alloc, placed, fault)?)?;
@@ -149,8 +160,10 @@ pub fn faults_of_all(
 ) -> Result<List<Fault>, AllocError>
     requires there { (p : Placed) → Contains placed.now p → p.block < length patterns.now }
     requires fit { (p : Placed) → Contains placed.now p → FaultsFit p (slice_index_or patterns.now p.block no_pattern).faults }
+    requires shown { PrefixesShown placed.now }
     ensures faults { IfOk result (λ faults. faults ≡ flat_map (fault_copies patterns.now) placed.now) }
     ensures weights { IfOk result WeightsFit }
+    ensures labels { IfOk result FaultsLabelled }
 {
     let mut faults = List::new(alloc);
     for instance in placed {
@@ -161,9 +174,11 @@ pub fn faults_of_all(
 }
 
 fn copy_of_test(alloc: Global, placed: &Placed, test: &TestPattern) -> Result<FlatTest, AllocError>
-    requires { placed.now.start + test.now.at < 2 ^ 32 }
+    requires at { placed.now.start + test.now.at < 2 ^ 32 }
+    requires shown { IsShown placed.now.prefix }
     ensures copy { IfOk result (λ copy. copy ≡ test_copy placed.now test.now) }
     ensures cost { IfOk result (λ copy. (1 ≤ copy.cost) × (copy.cost ≤ 1000000)) }
+    ensures label { IfOk result (λ copy. is_label copy.label ≡ true) }
 {
     let prefix = placed.prefix.as_str();
     let point = test.point.as_str();
@@ -184,9 +199,11 @@ fn copy_tests(
     patterns: &[TestPattern],
     tests: &mut List<FlatTest>,
 ) -> Result<(), AllocError>
-    requires { TestsFit placed.now patterns.now }
+    requires fit { TestsFit placed.now patterns.now }
+    requires shown { IsShown placed.now.prefix }
     ensures tests { OnOk result (tests.new ≡ tests.old ++ map (test_copy placed.now) patterns.now) }
     ensures costs { OnOk result (CostsFit tests.old → CostsFit tests.new) }
+    ensures labels { OnOk result (TestsLabelled tests.old → TestsLabelled tests.new) }
 {
     for test in patterns {
         tests.push(copy_of_test(alloc, placed, test)?)?;
@@ -202,8 +219,10 @@ pub fn tests_of_all(
 ) -> Result<List<FlatTest>, AllocError>
     requires there { (p : Placed) → Contains placed.now p → p.block < length patterns.now }
     requires fit { (p : Placed) → Contains placed.now p → TestsFit p (slice_index_or patterns.now p.block no_pattern).tests }
+    requires shown { PrefixesShown placed.now }
     ensures tests { IfOk result (λ tests. tests ≡ flat_map (test_copies patterns.now) placed.now) }
     ensures costs { IfOk result CostsFit }
+    ensures labels { IfOk result TestsLabelled }
 {
     let mut tests = List::new(alloc);
     for instance in placed {

@@ -1,23 +1,23 @@
 //! From a model of blocks to a flat model. First the blocks are looked over, each once, and the counts of
 //! the whole are worked out from them; a model that passes a limit is refused there, so that work and
-//! memory stay within the limits. Then one walk writes the instances down, and their items are copied
-//! from the patterns of their blocks.
-ghost use Rattle.std.specs.Prelude.{◌≡◌, ◌&&◌, ◌≤◌, nat_eq, length, None, IfOk, IfErr};
+//! memory stay within the limits. Then the items of all instances are copied from the patterns of their
+//! blocks, and they make the flat model.
+ghost use Rattle.std.specs.Prelude.{◌≡◌, ◌&&◌, ◌≤◌, true, nat_eq, length, None, IfOk, IfErr};
 ghost use Rattle.sig_types.specs.Breaches.{breaches};
 ghost use Rattle.sig_flat.specs.Counts.{first_over, refusal_after, flat_refusal};
-ghost use Rattle.sig_flat.specs.Limits.{limits_of};
+ghost use Rattle.sig_flat.specs.Counting.{limits_of};
 ghost use Rattle.sig_flat.specs.Flats.{IsFlatOf};
-ghost use Rattle.sig_flat.specs.Known.{IsKnown};
-ghost use Rattle.sig_flat.specs.Valid.{IsValid};
+ghost use Rattle.sig_flat.specs.Items.{AreItemsOf};
+ghost use Rattle.sig_flat.specs.Known.{IsKnown, AreNames};
+ghost use Rattle.sig_types.specs.NameText.{is_name};
 ghost use Rattle.sig_flat.specs.Surveys.{IsSurvey, CountsAre};
 ghost use Rattle.sig_flat.specs.Refused.{TellsRefusal};
 
-use crate::copies::{faults_of_all, links_of_all, nodes_of_all, tests_of_all};
 use crate::counts::Counts;
 use crate::flat::Flat;
-use crate::placing::placing_of;
+use crate::items::{Items, items_of};
 use crate::survey::{Survey, counts_of, survey_of};
-use sig_types::{Code, Good, Model, ModelFault, Place, Refusal, Valid};
+use sig_types::{Code, Good, List, Model, ModelFault, Name, Place, Refusal, Valid};
 use std::alloc::{AllocError, Global};
 
 /// Why no flat model comes out, where the counts say so.
@@ -39,23 +39,42 @@ fn refusal_of(good: &Good, counts: &Counts) -> Option<Refusal>
     None
 }
 
-/// Copies the items of the instances.
-fn flat_of(alloc: Global, model: &Model, survey: &Survey) -> Result<Flat, AllocError>
+/// The name, which is one.
+fn named(name: &Name) -> Name
+    ensures same { result ≡ name.now }
+    ensures name { is_name result ≡ true }
+{
+    let _bytes = name.as_bytes();
+    *name
+}
+
+/// The modes, each with its name.
+fn named_modes(alloc: Global, modes: &[Name]) -> Result<List<Name>, AllocError>
+    ensures same { IfOk result (λ kept. kept ≡ modes.now) }
+    ensures names { IfOk result AreNames }
+{
+    let mut kept = List::new(alloc);
+    for mode in modes {
+        kept.push(named(mode))?;
+    }
+    Ok(kept)
+}
+
+/// The flat model that these items make.
+fn flat_of(alloc: Global, model: &Model, items: Items) -> Result<Flat, AllocError>
     requires known { IsKnown model.now }
     requires modes { 1 ≤ length model.now.modes }
-    requires survey { IsSurvey model.now survey.now }
     requires within { flat_refusal model.now ≡ None }
-    ensures flat { IfOk result (IsFlatOf model.now) }
-    ensures valid { IfOk result IsValid }
+    requires items { AreItemsOf model.now items }
+    ensures { IfOk result (IsFlatOf model.now) }
 {
-    let placing = placing_of(alloc, model, survey)?;
-    let placed = placing.placed.as_slice();
-    let patterns = survey.patterns.as_slice();
-    let nodes = nodes_of_all(alloc, patterns, placed)?;
-    let links = links_of_all(alloc, placing.links.as_slice(), placed)?;
-    let faults = faults_of_all(alloc, patterns, placed)?;
-    let tests = tests_of_all(alloc, patterns, placed)?;
-    let modes = model.modes.copied(alloc)?;
+    let modes = named_modes(alloc, model.modes.as_slice())?;
+    let Items {
+        nodes,
+        links,
+        faults,
+        tests,
+    } = items;
     Ok(Flat {
         good: model.good.get(),
         modes,
@@ -66,13 +85,26 @@ fn flat_of(alloc: Global, model: &Model, survey: &Survey) -> Result<Flat, AllocE
     })
 }
 
+/// The items of the instances, put together.
+fn unfolded(alloc: Global, model: &Model, survey: &Survey) -> Result<Flat, AllocError>
+    requires known { IsKnown model.now }
+    requires modes { 1 ≤ length model.now.modes }
+    requires survey { IsSurvey model.now survey.now }
+    requires within { flat_refusal model.now ≡ None }
+    ensures { IfOk result (IsFlatOf model.now) }
+{
+    let items = items_of(alloc, model, survey)?;
+    let flat = flat_of(alloc, model, items)?;
+    Ok(flat)
+}
+
 /// The survey of a model and its counts.
 fn surveyed(alloc: Global, model: &Model) -> Result<(Survey, Counts), AllocError>
     requires { IsKnown model.now }
     ensures { IfOk result (λ s. IsSurvey model.now s.0 × CountsAre model.now s.1) }
 {
     let survey = survey_of(alloc, model)?;
-    let counts = counts_of(alloc, model, &survey)?;
+    let counts = counts_of(model, &survey);
     Ok((survey, counts))
 }
 
@@ -83,7 +115,6 @@ fn surveyed(alloc: Global, model: &Model) -> Result<(Survey, Counts), AllocError
 pub fn flatten(alloc: Global, valid: &Valid) -> Result<Flat, ModelFault>
     ensures accepted { IfOk result (λ flat. flat_refusal valid.now ≡ None) }
     ensures flat { IfOk result (IsFlatOf valid.now) }
-    ensures valid { IfOk result IsValid }
     ensures refused { IfErr result (TellsRefusal (flat_refusal valid.now)) }
 {
     let model = valid.model();
@@ -94,7 +125,7 @@ pub fn flatten(alloc: Global, valid: &Valid) -> Result<Flat, ModelFault>
     if let Some(refusal) = refusal_of(&model.good, &counts) {
         return Err(ModelFault::Refused(refusal));
     }
-    match flat_of(alloc, model, &survey) {
+    match unfolded(alloc, model, &survey) {
         Ok(flat) => Ok(flat),
         Err(_) => Err(ModelFault::OutOfMemory),
     }

@@ -3,7 +3,8 @@
 ghost use Rattle.std.specs.Prelude.{◌≡◌, [], None, IfOk};
 ghost use Rattle.sig_flat.specs.Counts.{flat_refusal};
 ghost use Rattle.sig_flat.specs.Known.{IsKnown};
-ghost use Rattle.sig_flat.specs.Placed.{placed_at};
+ghost use Rattle.sig_flat.specs.Counting.{sizes_in};
+ghost use Rattle.sig_flat.specs.Placed.{placed_at, PrefixesShown};
 ghost use Rattle.sig_flat.specs.Surveys.{top_of, IsSurvey, AreInners, AreLinks, IsPlacing};
 
 use crate::inner::Inner;
@@ -30,13 +31,13 @@ fn inners_of_model(
 ) -> Result<Vec<List<Inner>>, AllocError>
     requires known { IsKnown model.now }
     requires survey { IsSurvey model.now survey.now }
-    ensures { IfOk result (λ inners. AreInners model.now survey.now.sizes.items inners.items) }
+    ensures { IfOk result (λ inners. AreInners model.now (sizes_in survey.now.counts.items) inners.items) }
 {
     let blocks = model.blocks.as_slice();
     let numbers = survey.numbers.as_slice();
     let patterns = survey.patterns.as_slice();
-    let sizes = survey.sizes.as_slice();
-    let inners = inners_of_blocks(alloc, blocks, numbers, patterns, sizes)?;
+    let counts = survey.counts.as_slice();
+    let inners = inners_of_blocks(alloc, blocks, numbers, patterns, counts)?;
     Ok(inners)
 }
 
@@ -49,7 +50,7 @@ fn links_of_model(
 ) -> Result<Vec<List<LinkPattern>>, AllocError>
     requires known { IsKnown model.now }
     requires survey { IsSurvey model.now survey.now }
-    requires inners { AreInners model.now survey.now.sizes.items inners.now }
+    requires inners { AreInners model.now (sizes_in survey.now.counts.items) inners.now }
     ensures { IfOk result (λ links. AreLinks model.now inners.now links.items) }
 {
     let blocks = model.blocks.as_slice();
@@ -69,9 +70,10 @@ fn placed_of_model(
 ) -> Result<List<Placed>, AllocError>
     requires known { IsKnown model.now }
     requires survey { IsSurvey model.now survey.now }
-    requires inners { AreInners model.now survey.now.sizes.items inners.now }
+    requires inners { AreInners model.now (sizes_in survey.now.counts.items) inners.now }
     requires within { flat_refusal model.now ≡ None }
-    ensures { IfOk result (λ placed. placed ≡ placed_at inners.now [] (top_of model.now) 0) }
+    ensures placed { IfOk result (λ placed. placed ≡ placed_at inners.now [] (top_of model.now) 0) }
+    ensures shown { IfOk result PrefixesShown }
 {
     let mut placed = List::new(alloc);
     place_instances(alloc, inners, "", survey.top, 0, &mut placed)?;
@@ -83,7 +85,8 @@ pub fn placing_of(alloc: Global, model: &Model, survey: &Survey) -> Result<Placi
     requires known { IsKnown model.now }
     requires survey { IsSurvey model.now survey.now }
     requires within { flat_refusal model.now ≡ None }
-    ensures { IfOk result (λ p. IsPlacing model.now p.placed p.links.items) }
+    ensures placing { IfOk result (λ p. IsPlacing model.now p.placed p.links.items) }
+    ensures shown { IfOk result (λ p. PrefixesShown p.placed) }
 {
     let inners = inners_of_model(alloc, model, survey)?;
     let inside = inners.as_slice();

@@ -5,7 +5,7 @@
 ghost use Rattle.std.specs.Prelude.{◌≡◌, ℕ, ◌^◌, ◌<◌, [], ◌++◌, length, slice_index_or, OnOk, IfOk};
 ghost use Rattle.std.specs.List.{Contains};
 ghost use Rattle.sig_flat.specs.declared.inner.Inner.{Inner};
-ghost use Rattle.sig_flat.specs.Placed.{placed_at, NestEarlier, StartsFit, inner_prefix};
+ghost use Rattle.sig_flat.specs.Placed.{placed_at, NestEarlier, StartsFit, inner_prefix, IsShown, PrefixesShown};
 
 use crate::inner::Inner;
 use sig_types::{List, Name, Text};
@@ -23,7 +23,8 @@ pub struct Placed {
 
 /// The prefix of the instance of a use.
 fn prefix_of(alloc: Global, outer: &str, name: &Name) -> Result<Text, AllocError>
-    ensures { IfOk result (λ prefix. prefix ≡ inner_prefix outer.now name.now) }
+    ensures prefix { IfOk result (λ prefix. prefix ≡ inner_prefix outer.now name.now) }
+    ensures shown { IfOk result (λ prefix. IsShown outer.now → IsShown prefix) }
 {
     let name = name.as_str();
     Ok(Text::from_string(format!(in alloc; "{outer}{name}/")?))
@@ -41,7 +42,9 @@ pub fn place_instances(
     requires block { block < length inners.now }
     requires earlier { NestEarlier inners.now }
     requires fits { StartsFit (placed_at inners.now prefix.now block start) }
-    ensures { OnOk result (placed.new ≡ placed.old ++ placed_at inners.now prefix.now block start) }
+    requires shown { IsShown prefix.now }
+    ensures placed { OnOk result (placed.new ≡ placed.old ++ placed_at inners.now prefix.now block start) }
+    ensures shown { OnOk result (PrefixesShown placed.old → PrefixesShown placed.new) }
 {
     placed.push(Placed {
         prefix: Text::of(alloc, prefix)?,

@@ -101,9 +101,8 @@ valid-from_matrix flat mode matrix valid h = record {
         elim (cases_Bool (nat_eq matrix.good 0)) [
           | inl y ↦
               (let none = eqb-true matrix.good 0 y in
-              elim valid.state [
-                | inl g ↦ absurd (let e = h.good in let no : ⊥ = omega arith in no)
-                | inr f ↦ omega arith
-              ])
+              let e = h.good in
+              let some_state = valid.state in
+              omega arith)
           | inr n ↦ (let e : state_count matrix ≡ 1 + length matrix.faults = ap (λ b. cond b 0 1 + length matrix.faults) n in omega arith)
         ]

@@ -1,9 +1,8 @@
 //! Matrices whose texts are known: of a box of two parts, and of a line in which one part stops the signal.
 
-ghost use Rattle.std.specs.Prelude.{◌≡◌, ◌≤◌, ◌&&◌, nat_lt, length, IsTrue, IfOk};
+ghost use Rattle.std.specs.Prelude.{◌≡◌, ◌≤◌, ◌&&◌, nat_eq, nat_lt, length, IsTrue, IfOk};
 ghost use Rattle.std.specs.List.{list_all};
 ghost use Rattle.sig_flat.specs.declared.flat.FlatLink.{FlatLink};
-ghost use Rattle.sig_flat.specs.Valid.{IsValid};
 
 use crate::{FaultRow, Matrix, matrix_of, matrix_text};
 use sig_flat::{Fault, Flat, FlatLink, FlatTest, Node, NodeKind};
@@ -61,7 +60,9 @@ fn prints_the_box_of_two_parts(rt: HostRuntime) -> Result<(), Fail> {
     Ok(())
 }
 
-fn node(alloc: Global, path: &str, kind: NodeKind, stops: u64) -> Result<Node, AllocError> {
+fn node(alloc: Global, path: &str, kind: NodeKind, stops: u64) -> Result<Node, AllocError>
+    ensures { IfOk result (λ node. node.path ≡ path.now) }
+{
     Ok(Node {
         path: Text::of(alloc, path)?,
         kind,
@@ -72,9 +73,9 @@ fn node(alloc: Global, path: &str, kind: NodeKind, stops: u64) -> Result<Node, A
 /// Part A with both faults, part P that stops the signal, part Q, and point X with a test, joined by these links.
 fn line(alloc: Global, normal: Name, links: List<FlatLink>) -> Result<Flat, AllocError>
     requires few { length links ≤ 4 }
-    requires ends { IsTrue (list_all (λ (l : FlatLink). nat_lt l.from 4 && nat_lt l.to 4) links) }
-    ensures { IfOk result IsValid }
+    requires ends { IsTrue (list_all (λ (l : FlatLink). nat_lt l.from 4 && (nat_lt l.to 4 && nat_eq l.modes.0 1)) links) }
 {
+    let _normal = normal.as_bytes();
     let mut modes = List::new(alloc);
     modes.push(normal)?;
     let mut nodes = List::new(alloc);
@@ -118,6 +119,7 @@ fn line(alloc: Global, normal: Name, links: List<FlatLink>) -> Result<Flat, Allo
 fn link(from: u32, to: u32) -> FlatLink
     ensures from { result.from ≡ from }
     ensures to { result.to ≡ to }
+    ensures modes { result.modes.0 ≡ 1 }
 {
     FlatLink {
         from,

@@ -1,5 +1,5 @@
 -- The keys that each kind of table may have.
-use Rattle.std.specs.Prelude.{ℕ, Bool, true, ◌&&◌, not, List, [], ◌∷◌, Option, Some, None, codes}
+use Rattle.std.specs.Prelude.{ℕ, Bool, true, ◌&&◌, not, List, [], ◌∷◌, Option, Some, None}
 use Rattle.std.specs.List.{list_any}
 use Rattle.std.specs.Str.{bytes_eq}
 use Rattle.toml.specs.Data.{Data, Members, no_members, member, get_member}
@@ -8,35 +8,12 @@ use Rattle.sig_types.specs.declared.refusals.Key.{Key}
 use Rattle.sig_types.specs.declared.refusals.Key.TheVariants.{Version, Good, Top, Signals, Modes, Block, Name, Ports, Switches, Part, Use, Point, Link, Functional, General, Stops, Test, Cost, Mode, From, To}
 use Rattle.sig_types.specs.declared.refusals.Place.{Place}
 use Rattle.sig_types.specs.declared.refusals.Refusal.{Refusal}
-use Rattle.sig_text.specs.Places.{breach_if}
-
--- a key as it is written in a text
-abbrev pub key_text : Key → List ℕ
-key_text Version = codes "version"
-key_text Good = codes "good"
-key_text Top = codes "top"
-key_text Signals = codes "signals"
-key_text Modes = codes "modes"
-key_text Block = codes "block"
-key_text Name = codes "name"
-key_text Ports = codes "ports"
-key_text Switches = codes "switches"
-key_text Part = codes "part"
-key_text Use = codes "use"
-key_text Point = codes "point"
-key_text Link = codes "link"
-key_text Functional = codes "functional"
-key_text General = codes "general"
-key_text Stops = codes "stops"
-key_text Test = codes "test"
-key_text Cost = codes "cost"
-key_text Mode = codes "mode"
-key_text From = codes "from"
-key_text To = codes "to"
+use Rattle.sig_types.specs.Words.{key_word}
+use Rattle.sig_types.specs.Breaches.{breach_if}
 
 -- what stands at a key of a table
 abbrev pub value_at : Key → Members → Option Data
-value_at key members = get_member (key_text key) members
+value_at key members = get_member (key_word key) members
 
 abbrev pub document_keys : List Key
 document_keys = Version ∷ Good ∷ Top ∷ Signals ∷ Modes ∷ Block ∷ []
@@ -63,7 +40,7 @@ link_keys = From ∷ To ∷ Modes ∷ []
 
 -- the text is one of these keys
 abbrev pub is_known : List Key → List ℕ → Bool
-is_known known text = list_any (λ key. bytes_eq (key_text key) text) known
+is_known known text = list_any (λ key. bytes_eq (key_word key) text) known
 
 -- each key of the table is known
 abbrev pub are_known : List Key → Members → Bool

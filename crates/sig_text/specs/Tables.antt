@@ -16,27 +16,26 @@ use Rattle.sig_types.specs.declared.refusals.Key.TheVariants.{Version, Good, Top
 use Rattle.sig_types.specs.declared.refusals.Kind.TheVariants.{Part as PartKind, Use as UseKind, Point as PointKind, Link as LinkKind}
 use Rattle.sig_types.specs.declared.refusals.Place.TheVariants.{Document}
 use Rattle.sig_types.specs.declared.refusals.Refusal.{Refusal}
-use Rattle.sig_text.specs.declared.places.At.{At}
-use Rattle.sig_text.specs.declared.places.Spot.{Spot}
-use Rattle.sig_text.specs.Places.{document_spot, table_place, at_key, block_spot, item_spot, test_spot}
+use Rattle.sig_types.specs.declared.spot.Spot.{Spot}
+use Rattle.sig_types.specs.Spots.{as_block, as_item, as_test, at_key, document_spot, place_of}
 use Rattle.sig_text.specs.Keys.{value_at, document_keys, block_keys, part_keys, use_keys, point_keys, test_keys, link_keys, unknown_keys}
 use Rattle.sig_text.specs.Values.{number_breaches, number_of, version_breaches, name_breaches, name_of, end_breaches, end_of, array_breaches, list_of, table_breaches, table_of, required_breaches, optional_breaches, value_or_empty}
 
 -- what is wrong at a required key of a table, and at one that may be absent
-abbrev pub required_at : (At → Data → List Refusal) → Spot → Key → Members → List Refusal
+abbrev pub required_at : (Spot → Data → List Refusal) → Spot → Key → Members → List Refusal
 required_at breaches spot key members = required_breaches breaches (at_key spot key) (value_at key members)
 
-abbrev pub optional_at : (At → Data → List Refusal) → Spot → Key → Members → List Refusal
+abbrev pub optional_at : (Spot → Data → List Refusal) → Spot → Key → Members → List Refusal
 optional_at breaches spot key members = optional_breaches breaches (at_key spot key) (value_at key members)
 
 -- weights and costs, and the weight of no fault
-abbrev pub weight_breaches : At → Data → List Refusal
+abbrev pub weight_breaches : Spot → Data → List Refusal
 weight_breaches = number_breaches 1 1000000
 
-abbrev pub good_breaches : At → Data → List Refusal
+abbrev pub good_breaches : Spot → Data → List Refusal
 good_breaches = number_breaches 0 1000000
 
-abbrev pub names_breaches : At → Data → List Refusal
+abbrev pub names_breaches : Spot → Data → List Refusal
 names_breaches = array_breaches name_breaches
 
 -- a number, a name, an end and a list of names at a key
@@ -59,7 +58,7 @@ tables_at value key members = value_or_empty (list_of (table_of value)) (value_a
 -- a link
 abbrev pub link_breaches : Spot → Members → List Refusal
 link_breaches spot members =
-    unknown_keys link_keys (table_place spot) members
+    unknown_keys link_keys (place_of spot) members
     ++ (required_at end_breaches spot From members
     ++ (required_at end_breaches spot To members
     ++ optional_at names_breaches spot Modes members))
@@ -70,7 +69,7 @@ link_of members = record { from = end_at From members; to = end_at To members; m
 -- a test
 abbrev pub test_breaches : Spot → Members → List Refusal
 test_breaches spot members =
-    unknown_keys test_keys (table_place spot) members
+    unknown_keys test_keys (place_of spot) members
     ++ (required_at name_breaches spot Name members
     ++ (required_at weight_breaches spot Cost members
     ++ (required_at names_breaches spot Signals members
@@ -87,9 +86,9 @@ test_of members = record {
 -- a point
 abbrev pub point_breaches : Spot → Members → List Refusal
 point_breaches spot members =
-    unknown_keys point_keys (table_place spot) members
+    unknown_keys point_keys (place_of spot) members
     ++ (required_at name_breaches spot Name members
-    ++ optional_at (array_breaches (table_breaches test_breaches test_spot)) spot TestKey members)
+    ++ optional_at (array_breaches (table_breaches test_breaches as_test)) spot TestKey members)
 
 abbrev pub point_of : Members → Point
 point_of members = record { name = name_at Name members; tests = tables_at test_of TestKey members }
@@ -97,7 +96,7 @@ point_of members = record { name = name_at Name members; tests = tables_at test_
 -- a use of a block
 abbrev pub use_breaches : Spot → Members → List Refusal
 use_breaches spot members =
-    unknown_keys use_keys (table_place spot) members
+    unknown_keys use_keys (place_of spot) members
     ++ (required_at name_breaches spot Name members
     ++ required_at name_breaches spot BlockKey members)
 
@@ -117,7 +116,7 @@ functional_of table (Some d) = Some (record { weight = number_of d; signals = na
 -- a part
 abbrev pub part_breaches : Spot → Members → List Refusal
 part_breaches spot members =
-    unknown_keys (part_keys (value_at FunctionalKey members)) (table_place spot) members
+    unknown_keys (part_keys (value_at FunctionalKey members)) (place_of spot) members
     ++ (required_at name_breaches spot Name members
     ++ (functional_breaches spot members (value_at FunctionalKey members)
     ++ (optional_at weight_breaches spot General members
@@ -134,14 +133,14 @@ part_of members = record {
 -- a block
 abbrev pub block_breaches : Spot → Members → List Refusal
 block_breaches spot members =
-    unknown_keys block_keys (table_place spot) members
+    unknown_keys block_keys (place_of spot) members
     ++ (required_at name_breaches spot Name members
     ++ (optional_at names_breaches spot Ports members
     ++ (optional_at names_breaches spot Switches members
-    ++ (optional_at (array_breaches (table_breaches part_breaches (item_spot PartKind))) spot PartKey members
-    ++ (optional_at (array_breaches (table_breaches use_breaches (item_spot UseKind))) spot Use members
-    ++ (optional_at (array_breaches (table_breaches point_breaches (item_spot PointKind))) spot PointKey members
-    ++ optional_at (array_breaches (table_breaches link_breaches (item_spot LinkKind))) spot LinkKey members))))))
+    ++ (optional_at (array_breaches (table_breaches part_breaches (as_item PartKind))) spot PartKey members
+    ++ (optional_at (array_breaches (table_breaches use_breaches (as_item UseKind))) spot Use members
+    ++ (optional_at (array_breaches (table_breaches point_breaches (as_item PointKind))) spot PointKey members
+    ++ optional_at (array_breaches (table_breaches link_breaches (as_item LinkKind))) spot LinkKey members))))))
 
 abbrev pub block_of : Members → Block
 block_of members = record {
@@ -162,7 +161,7 @@ model_breaches members =
     ++ (required_at name_breaches document_spot Top members
     ++ (optional_at names_breaches document_spot Signals members
     ++ (optional_at names_breaches document_spot Modes members
-    ++ required_at (array_breaches (table_breaches block_breaches block_spot)) document_spot BlockKey members))))
+    ++ required_at (array_breaches (table_breaches block_breaches as_block)) document_spot BlockKey members))))
 
 abbrev pub model_of : Members → Model
 model_of members = record {

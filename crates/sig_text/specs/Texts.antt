@@ -5,8 +5,8 @@ use Rattle.sig_types.specs.declared.model.Model.{Model}
 use Rattle.sig_types.specs.declared.refusals.Code.TheVariants.{M01}
 use Rattle.sig_types.specs.declared.refusals.Place.TheVariants.{Document}
 use Rattle.sig_types.specs.declared.refusals.Refusal.{Refusal}
+use Rattle.sig_types.specs.Breaches.{breach}
 use Rattle.sig_text.specs.Document.{document_of}
-use Rattle.sig_text.specs.Places.{breach}
 use Rattle.sig_text.specs.Tables.{document_breaches, model_of}
 
 -- of the table that the bytes are a document of, where they are one

@@ -2,21 +2,28 @@
 
 ghost use Rattle.std.specs.Prelude.{◌≡◌, [], ◌++◌};
 ghost use Rattle.toml.specs.View.{view, table_view, items_view};
+ghost use Rattle.sig_types.specs.Spots.{at_key};
 ghost use Rattle.sig_text.specs.Keys.{value_at};
-ghost use Rattle.sig_text.specs.Reading.{Answers};
+ghost use Rattle.sig_types.specs.Refused.{Answers};
 ghost use Rattle.sig_text.specs.Values.{each_breaches, each_of, array_breaches, list_of, optional_breaches, value_or_empty};
 
 use crate::keys::member;
-use crate::places::At;
 use crate::values::{FromValue, refuse};
-use sig_types::{Code, List, ModelFault};
+use sig_types::{Code, Key, List, ModelFault, Spot};
 use std::alloc::Global;
 use toml::{Table, Value};
 
-fn elements_in<T: FromValue>(alloc: Global, items: &[Value], at: At) -> Result<List<T>, ModelFault>
+fn elements_in<T: FromValue>(
+    alloc: Global,
+    items: &[Value],
+    at: Spot,
+) -> Result<List<T>, ModelFault>
     ensures { Answers result (each_breaches T.breaches at 0 (items_view items.now)) (each_of T.stands_for (items_view items.now)) }
 {
-    let mut elements = List::new(alloc);
+    let mut elements = match List::with_capacity(alloc, items.len()) {
+        Ok(elements) => elements,
+        Err(_) => return Err(ModelFault::OutOfMemory),
+    };
     for (i, value) in items.iter().enumerate() {
         let element = T::read(alloc, value, at.element(i as u64))?;
         match elements.push(element) {
@@ -32,7 +39,7 @@ impl<T: FromValue> FromValue for List<T> {
 
     ghost stands_for = { list_of T.stands_for };
 
-    fn read(alloc: Global, value: &Value, at: At) -> Result<List<T>, ModelFault> {
+    fn read(alloc: Global, value: &Value, at: Spot) -> Result<List<T>, ModelFault> {
         match value {
             Value::Array(items) => elements_in::<T>(alloc, items.as_slice(), at),
             _ => refuse(Code::M05, at.place()),
@@ -41,12 +48,17 @@ impl<T: FromValue> FromValue for List<T> {
 }
 
 /// The array at a key that may be absent, which stands for an empty one.
-pub fn list_at<T: FromValue>(alloc: Global, table: &Table, at: At) -> Result<List<T>, ModelFault>
-    ensures { let found = value_at at.key (table_view table.now) in
-        Answers result (optional_breaches (array_breaches T.breaches) at found) (value_or_empty (list_of T.stands_for) found) }
+pub fn list_at<T: FromValue>(
+    alloc: Global,
+    table: &Table,
+    spot: Spot,
+    key: Key,
+) -> Result<List<T>, ModelFault>
+    ensures { let found = value_at key (table_view table.now) in
+        Answers result (optional_breaches (array_breaches T.breaches) (at_key spot key) found) (value_or_empty (list_of T.stands_for) found) }
 {
-    match member(table, at.key) {
+    match member(table, key) {
         None => Ok(List::new(alloc)),
-        Some(value) => List::read(alloc, value, at),
+        Some(value) => List::read(alloc, value, spot.at(key)),
     }
 }

@@ -8,53 +8,24 @@ ghost use Rattle.std.specs.Prelude.{◌≡◌, string_bytes, option_map};
 ghost use Rattle.std.specs.List.{list_all};
 ghost use Rattle.std.specs.BTreeMap.{keys};
 ghost use Rattle.toml.specs.View.{view, table_view};
-ghost use Rattle.sig_text.specs.Keys.{key_text, value_at, is_known, are_known, unknown_keys};
-ghost use Rattle.sig_text.specs.Reading.{Answers};
+ghost use Rattle.sig_text.specs.Keys.{value_at, is_known, are_known, unknown_keys};
+ghost use Rattle.sig_types.specs.Refused.{Answers};
 
 use crate::values::refuse;
 use sig_types::{Code, Key, ModelFault, Place};
 use toml::{Table, Value};
 
-/// A key as it is written in a text.
-fn key_text(key: Key) -> &'static str
-    ensures { result.now ≡ key_text key }
-{
-    match key {
-        Key::Version => "version",
-        Key::Good => "good",
-        Key::Top => "top",
-        Key::Signals => "signals",
-        Key::Modes => "modes",
-        Key::Block => "block",
-        Key::Name => "name",
-        Key::Ports => "ports",
-        Key::Switches => "switches",
-        Key::Part => "part",
-        Key::Use => "use",
-        Key::Point => "point",
-        Key::Link => "link",
-        Key::Functional => "functional",
-        Key::General => "general",
-        Key::Stops => "stops",
-        Key::Test => "test",
-        Key::Cost => "cost",
-        Key::Mode => "mode",
-        Key::From => "from",
-        Key::To => "to",
-    }
-}
-
 /// The value at a key of a table.
 pub fn member<'a>(table: &'a Table, key: Key) -> Option<&'a Value>
     ensures { option_map (λ x. view x.now) result ≡ value_at key (table_view table.now) }
 {
-    table.get(key_text(key))
+    table.get(key.word())
 }
 
 fn is_known(known: &[Key], text: &str) -> bool
     ensures { result ≡ is_known known.now text.now }
 {
-    known.iter().any(|key| key_text(*key) == text)
+    known.iter().any(|key| key.word() == text)
 }
 
 fn names_are_known(known: &[Key], table: &Table) -> bool

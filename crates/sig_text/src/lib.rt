@@ -10,7 +10,6 @@ mod arrays;
 mod keys;
 mod names;
 mod numbers;
-mod places;
 mod reader;
 mod tables;
 mod values;

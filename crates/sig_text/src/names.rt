@@ -6,12 +6,11 @@
 ghost use Rattle.std.specs.Prelude.{◌≡◌, [], MatchOption, true, false};
 ghost use Rattle.std.specs.List.{before_first, after_first};
 ghost use Rattle.toml.specs.View.{view};
-ghost use Rattle.sig_text.specs.Reading.{Answers};
+ghost use Rattle.sig_types.specs.Refused.{Answers};
 ghost use Rattle.sig_text.specs.Values.{name_breaches, name_of, is_dot, is_pair, pair_in, is_end, end_in, end_breaches, end_of};
 
-use crate::places::At;
 use crate::values::{FromValue, refuse};
-use sig_types::{Code, End, ModelFault, Name};
+use sig_types::{Code, End, ModelFault, Name, Spot};
 use std::alloc::Global;
 use toml::Value;
 
@@ -20,7 +19,7 @@ impl FromValue for Name {
 
     ghost stands_for = { name_of };
 
-    fn read(_alloc: Global, value: &Value, at: At) -> Result<Name, ModelFault> {
+    fn read(_alloc: Global, value: &Value, at: Spot) -> Result<Name, ModelFault> {
         match value {
             Value::String(text) => match Name::of(text.as_str()) {
                 Some(name) => Ok(name),
@@ -72,7 +71,7 @@ impl FromValue for End {
 
     ghost stands_for = { end_of };
 
-    fn read(_alloc: Global, value: &Value, at: At) -> Result<End, ModelFault> {
+    fn read(_alloc: Global, value: &Value, at: Spot) -> Result<End, ModelFault> {
         match value {
             Value::String(text) => match end_in(text.as_str()) {
                 Some(end) => Ok(end),

@@ -2,17 +2,16 @@
 
 ghost use Rattle.std.specs.Prelude.{◌≡◌, ◌≤◌, IfOk};
 ghost use Rattle.toml.specs.View.{view};
-ghost use Rattle.sig_text.specs.Reading.{Answers};
+ghost use Rattle.sig_types.specs.Refused.{Answers};
 ghost use Rattle.sig_text.specs.Values.{number_breaches, number_of, version_breaches};
 
-use crate::places::At;
 use crate::values::{FromValue, refuse};
-use sig_types::{Code, Cost, Good, ModelFault, Weight};
+use sig_types::{Code, Cost, Good, ModelFault, Spot, Weight};
 use std::alloc::Global;
 use toml::Value;
 
 /// An integer from `low` to `high`.
-fn number_in(value: &Value, at: At, low: u64, high: u64) -> Result<u64, ModelFault>
+fn number_in(value: &Value, at: Spot, low: u64, high: u64) -> Result<u64, ModelFault>
     ensures value { Answers result (number_breaches low high at (view value.now)) (number_of (view value.now)) }
     ensures range { IfOk result (λ n. (low ≤ n) × (n ≤ high)) }
 {
@@ -30,7 +29,7 @@ impl FromValue for Good {
 
     ghost stands_for = { number_of };
 
-    fn read(_alloc: Global, value: &Value, at: At) -> Result<Good, ModelFault> {
+    fn read(_alloc: Global, value: &Value, at: Spot) -> Result<Good, ModelFault> {
         let n = number_in(value, at, 0, 1_000_000)?;
         match Good::of(n) {
             Some(good) => Ok(good),
@@ -44,7 +43,7 @@ impl FromValue for Weight {
 
     ghost stands_for = { number_of };
 
-    fn read(_alloc: Global, value: &Value, at: At) -> Result<Weight, ModelFault> {
+    fn read(_alloc: Global, value: &Value, at: Spot) -> Result<Weight, ModelFault> {
         let n = number_in(value, at, 1, 1_000_000)?;
         match Weight::of(n) {
             Some(weight) => Ok(weight),
@@ -58,7 +57,7 @@ impl FromValue for Cost {
 
     ghost stands_for = { number_of };
 
-    fn read(_alloc: Global, value: &Value, at: At) -> Result<Cost, ModelFault> {
+    fn read(_alloc: Global, value: &Value, at: Spot) -> Result<Cost, ModelFault> {
         let n = number_in(value, at, 1, 1_000_000)?;
         match Cost::of(n) {
             Some(cost) => Ok(cost),
@@ -76,7 +75,7 @@ impl FromValue for Version {
 
     ghost stands_for = { λ d. record {} };
 
-    fn read(_alloc: Global, value: &Value, at: At) -> Result<Version, ModelFault> {
+    fn read(_alloc: Global, value: &Value, at: Spot) -> Result<Version, ModelFault> {
         match value {
             Value::Integer(1) => Ok(Version),
             Value::Integer(_) => refuse(Code::M02, at.place()),

@@ -7,20 +7,19 @@ ghost use Rattle.std.specs.Prelude.{◌≡◌, option_map};
 ghost use Rattle.toml.specs.View.{view, table_view};
 ghost use Rattle.sig_types.specs.declared.refusals.Kind.TheVariants.{Part as PartKind, Use as UseKind, Point as PointKind, Link as LinkKind};
 ghost use Rattle.sig_types.specs.declared.refusals.Key.TheVariants.{Functional as FunctionalKey};
-ghost use Rattle.sig_text.specs.Places.{block_spot, item_spot, test_spot};
+ghost use Rattle.sig_types.specs.Spots.{as_block, as_item, as_test};
 ghost use Rattle.sig_text.specs.Keys.{value_at, part_keys};
-ghost use Rattle.sig_text.specs.Reading.{Answers};
+ghost use Rattle.sig_types.specs.Refused.{Answers};
 ghost use Rattle.sig_text.specs.Values.{table_breaches, table_of};
 ghost use Rattle.sig_text.specs.Tables.{link_breaches, link_of, test_breaches, test_of, point_breaches, point_of, use_breaches, use_of, functional_breaches, functional_of, part_breaches, part_of, block_breaches, block_of, model_breaches, document_breaches, model_of};
 
 use crate::arrays::list_at;
 use crate::keys::{check_keys, member};
 use crate::numbers::Version;
-use crate::places::{At, Spot};
 use crate::values::{FromValue, optional, refuse, required};
 use sig_types::{
     Block, Code, Cost, End, Functional, Good, Key, Kind, Link, List, Model, ModelFault, Name, Part,
-    Place, Point, Test, Used, Weight,
+    Place, Point, Spot, Test, Used, Weight,
 };
 use std::alloc::Global;
 use toml::{Table, Value};
@@ -29,20 +28,20 @@ fn link_in(alloc: Global, table: &Table, spot: Spot) -> Result<Link, ModelFault>
     ensures { Answers result (link_breaches spot (table_view table.now)) (link_of (table_view table.now)) }
 {
     check_keys(table, &[Key::From, Key::To, Key::Modes], spot.place())?;
-    let from = required::<End>(alloc, table, spot.at(Key::From))?;
-    let to = required::<End>(alloc, table, spot.at(Key::To))?;
-    let modes = list_at::<Name>(alloc, table, spot.at(Key::Modes))?;
+    let from = required::<End>(alloc, table, spot, Key::From)?;
+    let to = required::<End>(alloc, table, spot, Key::To)?;
+    let modes = list_at::<Name>(alloc, table, spot, Key::Modes)?;
     Ok(Link { from, to, modes })
 }
 
 impl FromValue for Link {
-    ghost breaches = { table_breaches link_breaches (item_spot LinkKind) };
+    ghost breaches = { table_breaches link_breaches (as_item LinkKind) };
 
     ghost stands_for = { table_of link_of };
 
-    fn read(alloc: Global, value: &Value, at: At) -> Result<Link, ModelFault> {
+    fn read(alloc: Global, value: &Value, at: Spot) -> Result<Link, ModelFault> {
         match value {
-            Value::Table(table) => link_in(alloc, table, at.item(Kind::Link)),
+            Value::Table(table) => link_in(alloc, table, at.as_item(Kind::Link)),
             _ => refuse(Code::M05, at.place()),
         }
     }
@@ -53,10 +52,10 @@ fn test_in(alloc: Global, table: &Table, spot: Spot) -> Result<Test, ModelFault>
 {
     let known = [Key::Name, Key::Cost, Key::Signals, Key::Mode];
     check_keys(table, &known, spot.place())?;
-    let name = required::<Name>(alloc, table, spot.at(Key::Name))?;
-    let cost = required::<Cost>(alloc, table, spot.at(Key::Cost))?;
-    let signals = required::<List<Name>>(alloc, table, spot.at(Key::Signals))?;
-    let mode = optional::<Name>(alloc, table, spot.at(Key::Mode))?;
+    let name = required::<Name>(alloc, table, spot, Key::Name)?;
+    let cost = required::<Cost>(alloc, table, spot, Key::Cost)?;
+    let signals = required::<List<Name>>(alloc, table, spot, Key::Signals)?;
+    let mode = optional::<Name>(alloc, table, spot, Key::Mode)?;
     Ok(Test {
         name,
         cost,
@@ -66,13 +65,13 @@ fn test_in(alloc: Global, table: &Table, spot: Spot) -> Result<Test, ModelFault>
 }
 
 impl FromValue for Test {
-    ghost breaches = { table_breaches test_breaches test_spot };
+    ghost breaches = { table_breaches test_breaches as_test };
 
     ghost stands_for = { table_of test_of };
 
-    fn read(alloc: Global, value: &Value, at: At) -> Result<Test, ModelFault> {
+    fn read(alloc: Global, value: &Value, at: Spot) -> Result<Test, ModelFault> {
         match value {
-            Value::Table(table) => test_in(alloc, table, at.test()),
+            Value::Table(table) => test_in(alloc, table, at.as_test()),
             _ => refuse(Code::M05, at.place()),
         }
     }
@@ -82,19 +81,19 @@ fn point_in(alloc: Global, table: &Table, spot: Spot) -> Result<Point, ModelFaul
     ensures { Answers result (point_breaches spot (table_view table.now)) (point_of (table_view table.now)) }
 {
     check_keys(table, &[Key::Name, Key::Test], spot.place())?;
-    let name = required::<Name>(alloc, table, spot.at(Key::Name))?;
-    let tests = list_at::<Test>(alloc, table, spot.at(Key::Test))?;
+    let name = required::<Name>(alloc, table, spot, Key::Name)?;
+    let tests = list_at::<Test>(alloc, table, spot, Key::Test)?;
     Ok(Point { name, tests })
 }
 
 impl FromValue for Point {
-    ghost breaches = { table_breaches point_breaches (item_spot PointKind) };
+    ghost breaches = { table_breaches point_breaches (as_item PointKind) };
 
     ghost stands_for = { table_of point_of };
 
-    fn read(alloc: Global, value: &Value, at: At) -> Result<Point, ModelFault> {
+    fn read(alloc: Global, value: &Value, at: Spot) -> Result<Point, ModelFault> {
         match value {
-            Value::Table(table) => point_in(alloc, table, at.item(Kind::Point)),
+            Value::Table(table) => point_in(alloc, table, at.as_item(Kind::Point)),
             _ => refuse(Code::M05, at.place()),
         }
     }
@@ -104,19 +103,19 @@ fn use_in(alloc: Global, table: &Table, spot: Spot) -> Result<Used, ModelFault>
     ensures { Answers result (use_breaches spot (table_view table.now)) (use_of (table_view table.now)) }
 {
     check_keys(table, &[Key::Name, Key::Block], spot.place())?;
-    let name = required::<Name>(alloc, table, spot.at(Key::Name))?;
-    let block = required::<Name>(alloc, table, spot.at(Key::Block))?;
+    let name = required::<Name>(alloc, table, spot, Key::Name)?;
+    let block = required::<Name>(alloc, table, spot, Key::Block)?;
     Ok(Used { name, block })
 }
 
 impl FromValue for Used {
-    ghost breaches = { table_breaches use_breaches (item_spot UseKind) };
+    ghost breaches = { table_breaches use_breaches (as_item UseKind) };
 
     ghost stands_for = { table_of use_of };
 
-    fn read(alloc: Global, value: &Value, at: At) -> Result<Used, ModelFault> {
+    fn read(alloc: Global, value: &Value, at: Spot) -> Result<Used, ModelFault> {
         match value {
-            Value::Table(table) => use_in(alloc, table, at.item(Kind::Use)),
+            Value::Table(table) => use_in(alloc, table, at.as_item(Kind::Use)),
             _ => refuse(Code::M05, at.place()),
         }
     }
@@ -147,7 +146,7 @@ fn functional_in(alloc: Global, table: &Table, spot: Spot) -> Result<Option<Func
         None => Ok(None),
         Some(value) => {
             let weight = Weight::read(alloc, value, spot.at(Key::Functional))?;
-            let signals = required::<List<Name>>(alloc, table, spot.at(Key::Signals))?;
+            let signals = required::<List<Name>>(alloc, table, spot, Key::Signals)?;
             Ok(Some(Functional { weight, signals }))
         }
     }
@@ -158,10 +157,10 @@ fn part_in(alloc: Global, table: &Table, spot: Spot) -> Result<Part, ModelFault>
 {
     let known = part_keys(member(table, Key::Functional));
     check_keys(table, known, spot.place())?;
-    let name = required::<Name>(alloc, table, spot.at(Key::Name))?;
+    let name = required::<Name>(alloc, table, spot, Key::Name)?;
     let functional = functional_in(alloc, table, spot)?;
-    let general = optional::<Weight>(alloc, table, spot.at(Key::General))?;
-    let stops = list_at::<Name>(alloc, table, spot.at(Key::Stops))?;
+    let general = optional::<Weight>(alloc, table, spot, Key::General)?;
+    let stops = list_at::<Name>(alloc, table, spot, Key::Stops)?;
     Ok(Part {
         name,
         functional,
@@ -171,13 +170,13 @@ fn part_in(alloc: Global, table: &Table, spot: Spot) -> Result<Part, ModelFault>
 }
 
 impl FromValue for Part {
-    ghost breaches = { table_breaches part_breaches (item_spot PartKind) };
+    ghost breaches = { table_breaches part_breaches (as_item PartKind) };
 
     ghost stands_for = { table_of part_of };
 
-    fn read(alloc: Global, value: &Value, at: At) -> Result<Part, ModelFault> {
+    fn read(alloc: Global, value: &Value, at: Spot) -> Result<Part, ModelFault> {
         match value {
-            Value::Table(table) => part_in(alloc, table, at.item(Kind::Part)),
+            Value::Table(table) => part_in(alloc, table, at.as_item(Kind::Part)),
             _ => refuse(Code::M05, at.place()),
         }
     }
@@ -196,13 +195,13 @@ fn block_in(alloc: Global, table: &Table, spot: Spot) -> Result<Block, ModelFaul
         Key::Link,
     ];
     check_keys(table, &known, spot.place())?;
-    let name = required::<Name>(alloc, table, spot.at(Key::Name))?;
-    let ports = list_at::<Name>(alloc, table, spot.at(Key::Ports))?;
-    let switches = list_at::<Name>(alloc, table, spot.at(Key::Switches))?;
-    let parts = list_at::<Part>(alloc, table, spot.at(Key::Part))?;
-    let uses = list_at::<Used>(alloc, table, spot.at(Key::Use))?;
-    let points = list_at::<Point>(alloc, table, spot.at(Key::Point))?;
-    let links = list_at::<Link>(alloc, table, spot.at(Key::Link))?;
+    let name = required::<Name>(alloc, table, spot, Key::Name)?;
+    let ports = list_at::<Name>(alloc, table, spot, Key::Ports)?;
+    let switches = list_at::<Name>(alloc, table, spot, Key::Switches)?;
+    let parts = list_at::<Part>(alloc, table, spot, Key::Part)?;
+    let uses = list_at::<Used>(alloc, table, spot, Key::Use)?;
+    let points = list_at::<Point>(alloc, table, spot, Key::Point)?;
+    let links = list_at::<Link>(alloc, table, spot, Key::Link)?;
     Ok(Block {
         name,
         ports,
@@ -215,13 +214,13 @@ fn block_in(alloc: Global, table: &Table, spot: Spot) -> Result<Block, ModelFaul
 }
 
 impl FromValue for Block {
-    ghost breaches = { table_breaches block_breaches block_spot };
+    ghost breaches = { table_breaches block_breaches as_block };
 
     ghost stands_for = { table_of block_of };
 
-    fn read(alloc: Global, value: &Value, at: At) -> Result<Block, ModelFault> {
+    fn read(alloc: Global, value: &Value, at: Spot) -> Result<Block, ModelFault> {
         match value {
-            Value::Table(table) => block_in(alloc, table, at.block()),
+            Value::Table(table) => block_in(alloc, table, at.as_block()),
             _ => refuse(Code::M05, at.place()),
         }
     }
@@ -241,11 +240,11 @@ fn model_in(alloc: Global, table: &Table) -> Result<Model, ModelFault>
     ];
     let spot = Spot::document();
     check_keys(table, &known, Place::Document)?;
-    let good = required::<Good>(alloc, table, spot.at(Key::Good))?;
-    let top = required::<Name>(alloc, table, spot.at(Key::Top))?;
-    let signals = list_at::<Name>(alloc, table, spot.at(Key::Signals))?;
-    let modes = list_at::<Name>(alloc, table, spot.at(Key::Modes))?;
-    let blocks = required::<List<Block>>(alloc, table, spot.at(Key::Block))?;
+    let good = required::<Good>(alloc, table, spot, Key::Good)?;
+    let top = required::<Name>(alloc, table, spot, Key::Top)?;
+    let signals = list_at::<Name>(alloc, table, spot, Key::Signals)?;
+    let modes = list_at::<Name>(alloc, table, spot, Key::Modes)?;
+    let blocks = required::<List<Block>>(alloc, table, spot, Key::Block)?;
     Ok(Model {
         good,
         top,
@@ -259,6 +258,6 @@ fn model_in(alloc: Global, table: &Table) -> Result<Model, ModelFault>
 pub fn document_in(alloc: Global, table: &Table) -> Result<Model, ModelFault>
     ensures { Answers result (document_breaches (table_view table.now)) (model_of (table_view table.now)) }
 {
-    let _version = required::<Version>(alloc, table, Spot::document().at(Key::Version))?;
+    let _version = required::<Version>(alloc, table, Spot::document(), Key::Version)?;
     model_in(alloc, table)
 }

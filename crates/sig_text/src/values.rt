@@ -5,13 +5,13 @@
 
 ghost use Rattle.std.specs.Prelude.{◌≡◌, Err, option_map};
 ghost use Rattle.toml.specs.View.{view, table_view};
+ghost use Rattle.sig_types.specs.Spots.{at_key};
 ghost use Rattle.sig_text.specs.Keys.{value_at};
-ghost use Rattle.sig_text.specs.Reading.{Answers};
+ghost use Rattle.sig_types.specs.Refused.{Answers};
 ghost use Rattle.sig_text.specs.Values.{required_breaches, optional_breaches, value_or_empty};
 
 use crate::keys::member;
-use crate::places::At;
-use sig_types::{Code, ModelFault, Place, Refusal};
+use sig_types::{Code, Key, ModelFault, Place, Refusal, Spot};
 use std::alloc::Global;
 use toml::{Table, Value};
 
@@ -28,39 +28,49 @@ pub trait FromValue: Drop {
     ghost use Rattle.toml.specs.Data.{Data};
     ghost use Rattle.toml.specs.View.{view};
     ghost use Rattle.sig_types.specs.declared.refusals.Refusal.{Refusal};
-    ghost use Rattle.sig_text.specs.declared.places.At.{At};
-    ghost use Rattle.sig_text.specs.Reading.{Answers};
+    ghost use Rattle.sig_types.specs.declared.spot.Spot.{Spot};
+    ghost use Rattle.sig_types.specs.Refused.{Answers};
 
     /// The breaches of a value that stands somewhere, in the order in which they are looked for.
-    ghost breaches: { At → Data → List Refusal };
+    ghost breaches: { Spot → Data → List Refusal };
 
     /// What a value without a breach stands for.
     ghost stands_for: { Data → Self };
 
-    fn read(alloc: Global, value: &Value, at: At) -> Result<Self, ModelFault>
+    fn read(alloc: Global, value: &Value, at: Spot) -> Result<Self, ModelFault>
         ensures { Answers result (breaches at (view value.now)) (stands_for (view value.now)) };
 }
 
 /// The value at a key that has to be there.
-pub fn required<T: FromValue>(alloc: Global, table: &Table, at: At) -> Result<T, ModelFault>
-    ensures { let found = value_at at.key (table_view table.now) in
-        Answers result (required_breaches T.breaches at found) (value_or_empty T.stands_for found) }
+pub fn required<T: FromValue>(
+    alloc: Global,
+    table: &Table,
+    spot: Spot,
+    key: Key,
+) -> Result<T, ModelFault>
+    ensures { let found = value_at key (table_view table.now) in
+        Answers result (required_breaches T.breaches (at_key spot key) found) (value_or_empty T.stands_for found) }
 {
-    match member(table, at.key) {
-        None => refuse(Code::M03, at.place()),
-        Some(value) => T::read(alloc, value, at),
+    match member(table, key) {
+        None => refuse(Code::M03, spot.at(key).place()),
+        Some(value) => T::read(alloc, value, spot.at(key)),
     }
 }
 
 /// The value at a key that may be absent.
-pub fn optional<T: FromValue>(alloc: Global, table: &Table, at: At) -> Result<Option<T>, ModelFault>
-    ensures { let found = value_at at.key (table_view table.now) in
-        Answers result (optional_breaches T.breaches at found) (option_map T.stands_for found) }
+pub fn optional<T: FromValue>(
+    alloc: Global,
+    table: &Table,
+    spot: Spot,
+    key: Key,
+) -> Result<Option<T>, ModelFault>
+    ensures { let found = value_at key (table_view table.now) in
+        Answers result (optional_breaches T.breaches (at_key spot key) found) (option_map T.stands_for found) }
 {
-    match member(table, at.key) {
+    match member(table, key) {
         None => Ok(None),
         Some(value) => {
-            let value = T::read(alloc, value, at)?;
+            let value = T::read(alloc, value, spot.at(key))?;
             Ok(Some(value))
         }
     }

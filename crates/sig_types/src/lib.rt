@@ -12,6 +12,7 @@ mod name;
 mod numbers;
 mod refusals;
 mod sets;
+mod spot;
 mod text;
 mod valid;
 
@@ -21,6 +22,7 @@ pub use name::Name;
 pub use numbers::{Cost, Good, Weight};
 pub use refusals::{Code, Counted, Key, Kind, ModelFault, Place, Refusal};
 pub use sets::{Modes, Signals};
+pub use spot::Spot;
 pub use text::Text;
 pub use valid::Valid;
 

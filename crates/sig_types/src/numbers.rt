@@ -1,3 +1,7 @@
+//! Weights and costs, which are in their ranges by type.
+//!
+//! A weight is a prior: how often a fault is met, beside the other weights. The ranges bound every sum that the search
+//! makes, so that none of them wraps.
 ghost use Rattle.std.specs.Prelude.{◌≡◌, ◌<◌, ◌≤◌, SomeIff};
 
 use std::marker::Model;
@@ -32,6 +36,7 @@ impl Weight {
         }
     }
 
+    /// The number itself.
     pub fn get(&self) -> u32
         ensures value { result ≡ self.now }
         ensures range { (1 ≤ result) × (result ≤ 1000000) }
@@ -70,6 +75,7 @@ impl Cost {
         }
     }
 
+    /// The number itself.
     pub fn get(&self) -> u32
         ensures value { result ≡ self.now }
         ensures range { (1 ≤ result) × (result ≤ 1000000) }
@@ -108,6 +114,7 @@ impl Good {
         }
     }
 
+    /// The number itself.
     pub fn get(&self) -> u32
         ensures value { result ≡ self.now }
         ensures range { result ≤ 1000000 }

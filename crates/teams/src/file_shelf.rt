@@ -1,35 +1,67 @@
 //! The file system as a shelf. It tells nothing of what it holds, since another program may change a file at any time.
 //!
-//! A file is opened anew at each read, so no open file has to be kept between reads. It must be one that can be read from a place
-//! on: a pipe is a read fault. Only a name that the system doesn't find is a miss. A folder, a file that may not be read, and a
-//! path that goes through a file are read faults.
+//! A file stays open from its first read to its end, so that one which is replaced in between is read whole, in one version. A read
+//! from the start opens the file anew. A file that is read from its start to its end, piece after piece, need not be one that can
+//! be read from a place on: a pipe serves. Only a name that the system doesn't find is a miss. A folder, a file that may not be
+//! read, and a path that goes through a file are read faults.
 
 ghost use Rattle.std.specs.Prelude.{None, ◌≡◌, ◌≤◌, length, IfOk};
 
 use sig_edge::{Shelf, ShelfFault};
+use std::alloc::Global;
 use std::io::{Read, Seek, SeekFrom};
 use std::rt::Files;
 use std::{fs, io};
+
+/// A file that is open, and the place of its next byte.
+#[derive(Drop)]
+struct Reading<F: Drop> {
+    name: String,
+    file: F,
+    at: u64,
+}
 
 /// The files of the system.
 #[derive(Drop)]
 pub struct FileShelf<'a, R: Files> {
     rt: &'a R,
+    alloc: Global,
+    open: Option<Reading<R::File>>,
     faults: u64,
     misses: u64,
 }
 
 impl<'a, R: Files> FileShelf<'a, R> {
-    /// A shelf that had no fault and no miss.
-    pub fn new(rt: &'a R) -> FileShelf<'a, R>
+    /// A shelf that had no fault and no miss. It takes memory later, for the name of the file that is open.
+    pub fn new(rt: &'a R, alloc: Global) -> FileShelf<'a, R>
         ensures faults { result.faults ≡ 0 }
         ensures misses { result.misses ≡ 0 }
     {
         FileShelf {
             rt,
+            alloc,
+            open: None,
             faults: 0,
             misses: 0,
         }
+    }
+
+    /// Reads once from byte `at` of the file on. What was open goes on where it stands, if it is what is asked for.
+    fn read(&mut self, name: &str, at: u64, into: &mut [u8]) -> io::Result<usize>
+        ensures bound { IfOk result (λ n. n ≤ length into.new) }
+        ensures faults { self.new.faults ≡ self.old.faults }
+        ensures misses { self.new.misses ≡ self.old.misses }
+    {
+        let mut reading = match self.open.take() {
+            Some(open) if open.at == at && at > 0 && open.name.as_str() == name => open,
+            _ => opened(self.rt, self.alloc, name, at)?,
+        };
+        let n = reading.file.read(into)?;
+        if n > 0 {
+            reading.at = at.saturating_add(n as u64);
+            self.open = Some(reading);
+        }
+        Ok(n)
     }
 }
 
@@ -41,7 +73,7 @@ impl<'a, R: Files> Shelf for FileShelf<'a, R> {
     ghost misses = { λ shelf. shelf.misses };
 
     fn read_at(&mut self, name: &str, at: u64, into: &mut [u8]) -> Result<usize, ShelfFault> {
-        match read_file(self.rt, name, at, into) {
+        match self.read(name, at, into) {
             Ok(n) => Ok(n),
             Err(e) if e.kind() == io::ErrorKind::NotFound => {
                 self.misses = self.misses.saturating_add(1);
@@ -55,11 +87,12 @@ impl<'a, R: Files> Shelf for FileShelf<'a, R> {
     }
 }
 
-/// Reads once from byte `at` of the file on.
-fn read_file<R: Files>(rt: &R, name: &str, at: u64, into: &mut [u8]) -> io::Result<usize>
-    ensures { IfOk result (λ n. n ≤ length into.new) }
-{
+/// The file, opened anew, with byte `at` as its next.
+fn opened<R: Files>(rt: &R, alloc: Global, name: &str, at: u64) -> io::Result<Reading<R::File>> {
     let mut file = fs::open(rt, name)?;
-    file.seek(SeekFrom::Start(at))?;
-    file.read(into)
+    if at > 0 {
+        file.seek(SeekFrom::Start(at))?;
+    }
+    let name = String::from_str(alloc, name)?;
+    Ok(Reading { name, file, at })
 }

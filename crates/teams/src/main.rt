@@ -26,7 +26,7 @@ fn status_of(rt: &HostRuntime) -> Status {
         Err(WordsFault::NotText) => return Status::Usage,
         Err(WordsFault::OutOfMemory) => return Status::NoMemory,
     };
-    let mut shelf = FileShelf::new(rt);
+    let mut shelf = FileShelf::new(rt, rt.alloc());
     let mut sink = OutSink::new(rt.stdout());
     run(rt.alloc(), words.as_slice(), &mut shelf, &mut sink)
 }

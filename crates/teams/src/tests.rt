@@ -43,7 +43,7 @@ fn reads_a_file_of_the_system(rt: HostRuntime) -> Result<(), Fail> {
     let path = format!(in rt.alloc(); "/tmp/teams-shelf-{}", process::id(rt.process()))?;
     fs::write(&rt, path.as_str(), "version = 1\n")?;
     let through = format!(in rt.alloc(); "{path}/model.toml")?;
-    let mut shelf = FileShelf::new(&rt);
+    let mut shelf = FileShelf::new(&rt, rt.alloc());
     let mut into = [0u8; 8];
     let start = shelf.read_at(path.as_str(), 0, &mut into);
     let is_start = into.as_slice() == b"version ".as_slice();
@@ -60,6 +60,33 @@ fn reads_a_file_of_the_system(rt: HostRuntime) -> Result<(), Fail> {
     assert_eq!(rt; through_a_file, Err(ShelfFault::Failed));
     assert_eq!(rt; gone, Err(ShelfFault::Missing));
     assert_eq!(rt; folder, Err(ShelfFault::Failed));
+    Ok(())
+}
+
+#[test]
+fn reads_one_version_of_a_file(rt: HostRuntime) -> Result<(), Fail> {
+    let path = format!(in rt.alloc(); "/tmp/teams-shelf-old-{}", process::id(rt.process()))?;
+    let other = format!(in rt.alloc(); "{path}-new")?;
+    fs::write(&rt, path.as_str(), "version = 1\n")?;
+    fs::write(&rt, other.as_str(), "VERSION = 22\n")?;
+    let mut shelf = FileShelf::new(&rt, rt.alloc());
+    let mut into = [0u8; 8];
+    let start = shelf.read_at(path.as_str(), 0, &mut into);
+    fs::rename(&rt, other.as_str(), path.as_str())?;
+    let rest = shelf.read_at(path.as_str(), 8, &mut into);
+    let is_old = &into[..4] == b"= 1\n".as_slice();
+    let again = shelf.read_at(path.as_str(), 0, &mut into);
+    let is_new = into.as_slice() == b"VERSION ".as_slice();
+    let skipped = shelf.read_at(path.as_str(), 10, &mut into);
+    let is_skipped = &into[..3] == b"22\n".as_slice();
+    fs::remove_file(&rt, path.as_str())?;
+    assert_eq!(rt; start, Ok(8));
+    assert_eq!(rt; rest, Ok(4));
+    assert!(rt; is_old);
+    assert_eq!(rt; again, Ok(8));
+    assert!(rt; is_new);
+    assert_eq!(rt; skipped, Ok(3));
+    assert!(rt; is_skipped);
     Ok(())
 }
 

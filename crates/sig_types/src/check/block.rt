@@ -1,46 +1,28 @@
 //! The rules of a block, in the order in which they are looked at: names that repeat, then parts, uses, tests and links.
 //! A block is checked on its own; of other blocks only the names and the ports count.
-ghost use Rattle.std.specs.Prelude.{◌≡◌, Some, None};
-ghost use Rattle.sig_types.specs.Breaches.{block_breaches, each, functional_signals, in_test, mode_breaches, named, part_breaches, repeats, test_breaches, unknown_among, use_breaches};
-ghost use Rattle.sig_types.specs.Lookups.{place_at};
-ghost use Rattle.sig_types.specs.Parts.{contents_breaches};
+ghost use Rattle.std.specs.Prelude.{◌≡◌};
+ghost use Rattle.sig_types.specs.Breaches.{block_breaches, contents_breaches, each, functional_signals, mode_breaches, part_breaches, repeated_tests, test_breaches, unknown_among, use_breaches};
+ghost use Rattle.sig_types.specs.Spots.{element_place};
 ghost use Rattle.sig_types.specs.Refused.{IsVerdict};
 ghost use Rattle.sig_types.specs.declared.model.Point.{Point};
-ghost use Rattle.sig_types.specs.declared.model.Test.{Test};
-ghost use Rattle.sig_types.specs.declared.refusals.Key.TheVariants.{Name as NameKey};
-ghost use Rattle.sig_types.specs.declared.check.names.Places.TheVariants.{Elements};
 
 use crate::check::index::Index;
 use crate::check::link::check_links;
-use crate::check::names::{Places, check_known, check_repeats, refuse_if};
+use crate::check::names::{check_known, check_repeats, refuse_if};
 use crate::check::scope::Scope;
 use crate::model::{Block, Functional, Part, Point, Test, Used};
 use crate::name::Name;
 use crate::refusals::{Code, Key, Kind, ModelFault, Place};
+use crate::spot::Spot;
 use std::alloc::Global;
-
-/// The elements of a key of an item, or of a test of a point.
-fn elements(block: u64, item: (Kind, u64), test: Option<u64>, key: Key) -> Places
-    ensures { result ≡ Elements (Some block) (Some item) test key }
-{
-    Places::Elements {
-        block: Some(block),
-        item: Some(item),
-        test,
-        key,
-    }
-}
 
 /// Looks for names that repeat among the tests of a point.
 fn check_test_names(alloc: Global, block: u64, points: &[Point]) -> Result<(), ModelFault>
-    ensures { IsVerdict (each (λ p (point : Point). repeats (each (λ t (test : Test). named test.name (in_test block p t NameKey None)) point.tests)) points.now) result }
+    ensures { IsVerdict (repeated_tests block points.now) result }
 {
     for (p, point) in points.iter().enumerate() {
-        let places = Places::Tests {
-            block,
-            point: p as u64,
-        };
-        check_repeats(alloc, point.tests.as_slice(), places)?;
+        let spot = Spot::block(block).item(Kind::Point, p as u64);
+        check_repeats(alloc, point.tests.as_slice(), spot)?;
     }
     Ok(())
 }
@@ -48,13 +30,13 @@ fn check_test_names(alloc: Global, block: u64, points: &[Point]) -> Result<(), M
 /// The signals on which a part works are known.
 fn check_functional(
     index: &Index,
-    places: Places,
+    list: Spot,
     functional: &Option<Functional>,
 ) -> Result<(), ModelFault>
-    ensures { IsVerdict (unknown_among index.now.signals (place_at places) (functional_signals functional.now)) result }
+    ensures { IsVerdict (unknown_among index.now.signals (element_place list) (functional_signals functional.now)) result }
 {
     match functional {
-        Some(functional) => check_known(index.signals(), functional.signals.as_slice(), places),
+        Some(functional) => check_known(index.signals(), functional.signals.as_slice(), list),
         None => Ok(()),
     }
 }
@@ -62,11 +44,11 @@ fn check_functional(
 fn check_part(index: &Index, block: u64, number: u64, part: &Part) -> Result<(), ModelFault>
     ensures { IsVerdict (part_breaches index.now block number part.now) result }
 {
-    let item = (Kind::Part, number);
-    let places = elements(block, item, None, Key::Signals);
-    check_functional(index, places, &part.functional)?;
-    let places = elements(block, item, None, Key::Stops);
-    check_known(index.signals(), part.stops.as_slice(), places)
+    let spot = Spot::block(block).item(Kind::Part, number);
+    let signals = spot.at(Key::Signals);
+    check_functional(index, signals, &part.functional)?;
+    let stops = spot.at(Key::Stops);
+    check_known(index.signals(), part.stops.as_slice(), stops)
 }
 
 fn check_parts(index: &Index, block: u64, parts: &[Part]) -> Result<(), ModelFault>
@@ -82,13 +64,8 @@ fn check_parts(index: &Index, block: u64, parts: &[Part]) -> Result<(), ModelFau
 fn check_use(index: &Index, block: u64, number: u64, used: &Used) -> Result<(), ModelFault>
     ensures { IsVerdict (use_breaches index.now block number used.now) result }
 {
-    let place = Place::In {
-        block: Some(block),
-        item: Some((Kind::Use, number)),
-        test: None,
-        key: Some(Key::Block),
-        element: None,
-    };
+    let spot = Spot::block(block).item(Kind::Use, number);
+    let place = spot.at(Key::Block).place();
     match index.block_number(&used.block) {
         Some(other) => refuse_if(block <= other as u64, Code::M10, place),
         None => refuse_if(true, Code::M08, place),
@@ -123,20 +100,10 @@ fn check_test(
 ) -> Result<(), ModelFault>
     ensures { IsVerdict (test_breaches index.now block point number test.now) result }
 {
-    let item = (Kind::Point, point);
-    check_known(
-        index.signals(),
-        test.signals.as_slice(),
-        elements(block, item, Some(number), Key::Signals),
-    )?;
-    let place = Place::In {
-        block: Some(block),
-        item: Some(item),
-        test: Some(number),
-        key: Some(Key::Mode),
-        element: None,
-    };
-    check_mode(index, &test.mode, place)
+    let spot = Spot::block(block).item(Kind::Point, point).test(number);
+    let signals = spot.at(Key::Signals);
+    check_known(index.signals(), test.signals.as_slice(), signals)?;
+    check_mode(index, &test.mode, spot.at(Key::Mode).place())
 }
 
 fn check_tests(index: &Index, block: u64, point: u64, tests: &[Test]) -> Result<(), ModelFault>

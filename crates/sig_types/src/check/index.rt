@@ -1,17 +1,16 @@
 //! What the blocks of a model are checked against: its signals, modes and blocks by name, and the ports of each block.
 //! All of it is made once, so that each look-up of a name takes one step.
-ghost use Rattle.std.specs.Prelude.{◌≡◌, [], codes, map, None, is_some, position, IfOk, OnOk};
+ghost use Rattle.std.specs.Prelude.{◌≡◌, [], codes, map, is_some, position, IfOk, OnOk};
 ghost use Rattle.std.specs.Str.{bytes_eq};
 ghost use Rattle.indexmap.specs.IndexSet.{insert_all};
-ghost use Rattle.sig_types.specs.Breaches.{block_names, has, has_port, known_modes, or_normal};
-ghost use Rattle.sig_types.specs.Parts.{repeated_at_top};
+ghost use Rattle.sig_types.specs.Breaches.{block_names, has, has_port, known_modes, or_normal, repeated_at_top};
 ghost use Rattle.sig_types.specs.Refused.{IsVerdict};
-ghost use Rattle.sig_types.specs.declared.check.names.Places.TheVariants.{Elements};
 
-use crate::check::names::{Places, number_names};
+use crate::check::names::number_names;
 use crate::model::{Block, Model};
 use crate::name::Name;
 use crate::refusals::{Key, ModelFault};
+use crate::spot::Spot;
 use indexmap::IndexSet;
 use std::alloc::{AllocError, Global};
 
@@ -82,27 +81,16 @@ fn ports_of(alloc: Global, blocks: &[Block]) -> Result<Vec<IndexSet<Name>>, Allo
     Ok(sets)
 }
 
-/// The places of the elements of a key of the document.
-fn in_document(key: Key) -> Places
-    ensures { result ≡ Elements None None None key }
-{
-    Places::Elements {
-        block: None,
-        item: None,
-        test: None,
-        key,
-    }
-}
-
 impl<'a> Index<'a> {
     /// Looks for names that repeat among the signals, the modes and the blocks.
     pub fn of(alloc: Global, model: &'a Model) -> Result<Index<'a>, ModelFault>
         ensures index { IfOk result (λ index. index ≡ model.now) }
         ensures verdict { IsVerdict (repeated_at_top model.now) result }
     {
-        let signals = number_names(alloc, model.signals.as_slice(), in_document(Key::Signals))?;
-        let mut modes = number_names(alloc, model.modes.as_slice(), in_document(Key::Modes))?;
-        let blocks = number_names(alloc, model.blocks.as_slice(), Places::Blocks)?;
+        let document = Spot::document();
+        let signals = number_names(alloc, model.signals.as_slice(), document.at(Key::Signals))?;
+        let mut modes = number_names(alloc, model.modes.as_slice(), document.at(Key::Modes))?;
+        let blocks = number_names(alloc, model.blocks.as_slice(), document)?;
         add_normal(&mut modes)?;
         let ports = ports_of(alloc, model.blocks.as_slice())?;
         Ok(Index {

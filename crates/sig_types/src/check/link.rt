@@ -1,18 +1,17 @@
 //! The rules of a block's links: both ends are there, the modes are known, and modes are named exactly where an end is a
 //! switch.
-ghost use Rattle.std.specs.Prelude.{◌≡◌, ◌||◌, not, None, Some};
+ghost use Rattle.std.specs.Prelude.{◌≡◌, ◌||◌, not, Some};
 ghost use Rattle.sig_types.specs.Breaches.{breach_if, each, end_breaches, end_of_item, is_switch, link_breaches, names_some, same_answer};
 ghost use Rattle.sig_types.specs.Refused.{IsVerdict};
 ghost use Rattle.sig_types.specs.declared.refusals.Code.TheVariants.{M12};
-ghost use Rattle.sig_types.specs.declared.refusals.Kind.TheVariants.{Link as LinkKind};
-ghost use Rattle.sig_types.specs.declared.refusals.Place.TheVariants.{In};
 
 use crate::check::index::Index;
-use crate::check::names::{Places, check_known, refuse_if};
+use crate::check::names::{check_known, refuse_if};
 use crate::check::scope::Scope;
 use crate::model::{End, Link};
 use crate::name::Name;
 use crate::refusals::{Code, Key, Kind, ModelFault, Place};
+use crate::spot::Spot;
 
 /// Of an end `use.port`: the use is one, and its block has the port.
 fn check_port(
@@ -56,19 +55,6 @@ fn is_switch(scope: &Scope, end: &End) -> bool
     end.second.is_none() && scope.has_switch(&end.first)
 }
 
-/// A key of a link; none is the link itself.
-fn in_link(block: u64, link: u64, key: Option<Key>) -> Place
-    ensures { result ≡ In (Some block) (Some (LinkKind, link)) None key None }
-{
-    Place::In {
-        block: Some(block),
-        item: Some((Kind::Link, link)),
-        test: None,
-        key,
-        element: None,
-    }
-}
-
 /// Modes are named exactly where an end is a switch.
 fn check_modes_named(scope: &Scope, place: Place, link: &Link) -> Result<(), ModelFault>
     ensures { IsVerdict (breach_if (not (same_answer (is_switch scope.now.block link.now.from || is_switch scope.now.block link.now.to) (names_some link.now.modes))) M12 place) result }
@@ -81,27 +67,11 @@ fn check_modes_named(scope: &Scope, place: Place, link: &Link) -> Result<(), Mod
 fn check_link(index: &Index, scope: &Scope, number: u64, link: &Link) -> Result<(), ModelFault>
     ensures { IsVerdict (link_breaches index.now scope.now.number scope.now.block number link.now) result }
 {
-    let block = scope.number();
-    check_end(
-        index,
-        scope,
-        in_link(block, number, Some(Key::From)),
-        &link.from,
-    )?;
-    check_end(
-        index,
-        scope,
-        in_link(block, number, Some(Key::To)),
-        &link.to,
-    )?;
-    let places = Places::Elements {
-        block: Some(block),
-        item: Some((Kind::Link, number)),
-        test: None,
-        key: Key::Modes,
-    };
-    check_known(index.modes(), link.modes.as_slice(), places)?;
-    check_modes_named(scope, in_link(block, number, None), link)
+    let spot = Spot::block(scope.number()).item(Kind::Link, number);
+    check_end(index, scope, spot.at(Key::From).place(), &link.from)?;
+    check_end(index, scope, spot.at(Key::To).place(), &link.to)?;
+    check_known(index.modes(), link.modes.as_slice(), spot.at(Key::Modes))?;
+    check_modes_named(scope, spot.place(), link)
 }
 
 pub(crate) fn check_links(index: &Index, scope: &Scope, links: &[Link]) -> Result<(), ModelFault>

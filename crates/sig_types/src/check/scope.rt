@@ -1,19 +1,19 @@
 //! What the links of a block are checked against: the names of its items, its switches and its uses. Made once a block,
 //! after the names were found not to repeat, so that each end of a link takes a few look-ups however many items there are.
-ghost use Rattle.std.specs.Prelude.{◌≡◌, ◌∷◌, ℕ, List, [], Some, None, IfOk, OnOk};
+ghost use Rattle.std.specs.Prelude.{◌≡◌, ◌∷◌, ℕ, List, [], IfOk, OnOk};
 ghost use Rattle.std.specs.Option.{option_or};
 ghost use Rattle.std.specs.Str.{bytes_eq};
 ghost use Rattle.indexmap.specs.IndexMap.{get};
 ghost use Rattle.sig_types.specs.Breaches.{has, names_of, repeats, scope_of};
-ghost use Rattle.sig_types.specs.declared.check.names.Places.TheVariants.{Elements, Items};
 ghost use Rattle.sig_types.specs.Lookups.{used_block};
 ghost use Rattle.sig_types.specs.Refused.{IsVerdict};
 
 use crate::check::index::set_of;
-use crate::check::names::{Places, take_names};
+use crate::check::names::take_names;
 use crate::model::{Block, Used};
 use crate::name::Name;
-use crate::refusals::{Key, Kind, ModelFault};
+use crate::refusals::{Key, ModelFault};
+use crate::spot::Spot;
 use indexmap::{IndexMap, IndexSet};
 use std::alloc::{AllocError, Global};
 
@@ -44,41 +44,20 @@ impl<'a> std::marker::Model for Scope<'a> {
     ghost invariant = { λ s. (s.names.keys ≡ names_of (scope_of s.number s.block.now)) × (s.switches.keys ≡ insert_all bytes_eq [] s.block.now.switches) × ((name : List ℕ) → get bytes_eq s.uses name ≡ used_block s.block.now.uses name) };
 }
 
-/// The places of the elements of a key of the block.
-fn in_block(block: u64, key: Key) -> Places
-    ensures { result ≡ Elements (Some block) None None key }
-{
-    Places::Elements {
-        block: Some(block),
-        item: None,
-        test: None,
-        key,
-    }
-}
-
-/// The places of the items of a kind of the block.
-fn items_in(block: u64, kind: Kind) -> Places
-    ensures { result ≡ Items block kind }
-{
-    Places::Items { block, kind }
-}
-
 /// The names of all items, which share one scope. Looks for those that repeat.
 fn names_in(alloc: Global, number: u64, block: &Block) -> Result<IndexSet<Name>, ModelFault>
     ensures names { IfOk result (λ names. names.keys ≡ names_of (scope_of number block.now)) }
     ensures verdict { IsVerdict (repeats (scope_of number block.now)) result }
 {
     let mut names = IndexSet::new(alloc);
-    let ports = in_block(number, Key::Ports);
+    let spot = Spot::block(number);
+    let ports = spot.at(Key::Ports);
     take_names(&mut names, block.ports.as_slice(), ports)?;
-    let switches = in_block(number, Key::Switches);
+    let switches = spot.at(Key::Switches);
     take_names(&mut names, block.switches.as_slice(), switches)?;
-    let parts = items_in(number, Kind::Part);
-    take_names(&mut names, block.parts.as_slice(), parts)?;
-    let uses = items_in(number, Kind::Use);
-    take_names(&mut names, block.uses.as_slice(), uses)?;
-    let points = items_in(number, Kind::Point);
-    take_names(&mut names, block.points.as_slice(), points)?;
+    take_names(&mut names, block.parts.as_slice(), spot)?;
+    take_names(&mut names, block.uses.as_slice(), spot)?;
+    take_names(&mut names, block.points.as_slice(), spot)?;
     Ok(names)
 }
 

@@ -1,7 +1,7 @@
 use Rattle.std.proofs.Common.{◌∙◌, List, [], ◌∷◌, ◌++◌, sym, ap, arith, take, get_or, length}
 use Rattle.seq_inst.specs.Members.{members}
 use Rattle.seq_core.specs.Mapping.{Placed, Mapping, place_of}
-use Rattle.seq_finish.specs.Entered.{no_row}
+use Rattle.seq_core.specs.Entered.{no_row}
 use Rattle.seq_finish.proofs.PlaceLaws.{absent, placed-more, length-placed, length-taken}
 use Rattle.seq_finish.proofs.places.index_of.Goals as goal
 

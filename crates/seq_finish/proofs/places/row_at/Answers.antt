@@ -1,6 +1,6 @@
 use Rattle.std.proofs.Common.{◌≡◌, ◌+◌, ◌∙◌, sym, ap, arith}
 use Rattle.seq_inst.specs.Members.{members}
-use Rattle.seq_finish.specs.Entered.{no_row}
+use Rattle.seq_core.specs.Entered.{no_row}
 use Rattle.seq_core.specs.Mapping.{place_of}
 use Rattle.seq_finish.proofs.PlaceLaws.{place-found, place-none}
 use Rattle.seq_finish.proofs.places.row_at.Goals as goal

@@ -3,24 +3,24 @@ use Rattle.seq_theory.specs.Rows.{no_value}
 use Rattle.seq_inst.specs.declared.outcome.Row.{Row}
 use Rattle.seq_inst.specs.Members.{members}
 use Rattle.seq_inst.specs.Instances.{problem_of}
-use Rattle.seq_solo.specs.Known.{group_at, Narrows}
-use Rattle.seq_solo.specs.Steps.{IsStep, ClosesBelow}
-use Rattle.seq_solo.specs.Walks.{HasMoved}
-use Rattle.seq_solo.proofs.StepLaws.{moved-enter, moved-down, moved-close, entered-long, turned-none}
+use Rattle.seq_graph.specs.Known.{group_at, Narrows}
+use Rattle.seq_graph.specs.Steps.{IsStep, ClosesBelow}
+use Rattle.seq_graph.specs.Walks.{HasMoved}
+use Rattle.seq_graph.proofs.StepLaws.{moved-enter, moved-down, moved-close, entered-long, turned-none}
 use Rattle.seq_solo.proofs.turn.+turn.Goals as goal
 
 pub refresh-requires-clause-place : goal.refresh-requires-clause-place
 refresh-requires-clause-place t c =
-    let long = entered-long c.next_step.new.search.rows.items c.enter.new.search.rows.items _ c.in_ok-enter-in-Enter.ensures.narrows in
+    let long = entered-long c.next_step.new.graph.rows.items c.enter.new.graph.rows.items _ c.in_ok-enter-in-Enter.ensures.narrows in
     let same = ap length c.in_ok-group.ensures.rows in
     let place = c.requires.place in
     omega arith
 
 pub returns-in_ok-refresh-in-Enter-clause-turned : goal.returns-in_ok-refresh-in-Enter-clause-turned
 returns-in_ok-refresh-in-Enter-clause-turned t c =
-    let chosen = c.next_step.new.search.rows in
-    let entered = c.enter.new.search.rows.items in
-    let new = c.refresh.new.search.rows.items in
+    let chosen = c.next_step.new.graph.rows in
+    let entered = c.enter.new.graph.rows.items in
+    let new = c.refresh.new.graph.rows.items in
     let row : Row = record { group = c.in-Enter.group; low = 0; up = no_value } in
     let room : length chosen.items < c.args.limit = (let e = c.len.ensures ∙ chosen.ok.0 in let full = c.if-len-limit.false in omega arith) in
     subst (λ l. HasMoved (problem_of c.args.inst.now) c.args.limit l new) c.in_ok-group.ensures.rows
@@ -29,17 +29,17 @@ returns-in_ok-refresh-in-Enter-clause-turned t c =
 pub returns-in_ok-refresh-in-Down-clause-turned : goal.returns-in_ok-refresh-in-Down-clause-turned
 returns-in_ok-refresh-in-Down-clause-turned t c =
     let p = problem_of c.args.inst.now in
-    let chosen = c.next_step.new.search.rows.items in
-    let turned = c.turn.new.search.rows.items in
-    let new = c.refresh-in-Down.new.search.rows.items in
+    let chosen = c.next_step.new.graph.rows.items in
+    let turned = c.turn.new.graph.rows.items in
+    let new = c.refresh-in-Down.new.graph.rows.items in
     subst (λ l. HasMoved p c.args.limit l new) c.in_ok-group.ensures.rows
     (moved-down c.args.inst.now c.args.limit chosen turned new (turned-none p c.args.limit chosen turned c.in_ok-group-in-Down.field-0 c.in_default.not-Some c.in_ok-group-in-Down.ensures.turned) c.in_ok-refresh-in-Down.ensures.known.rows_are c.in_ok-refresh-in-Down.ensures.narrows)
 
 pub returns-in_ok-refresh-in-Close-clause-turned : goal.returns-in_ok-refresh-in-Close-clause-turned
 returns-in_ok-refresh-in-Close-clause-turned t c =
     let p = problem_of c.args.inst.now in
-    let old = c.args.search.now.rows.items in
-    let new = c.refresh-in-Close.new.search.rows.items in
+    let old = c.args.graph.now.rows.items in
+    let new = c.refresh-in-Close.new.graph.rows.items in
     let same = c.in_ok-group.ensures.rows in
     let closed = subst (IsStep p old (members (group_at old c.args.place))) c.in-Close.is c.in_ok-group.ensures.step in
     let narrows = subst (λ l. Narrows l new) same c.in_ok-refresh-in-Close.ensures.narrows in

@@ -1,7 +1,7 @@
 use Rattle.std.proofs.Common.{length}
 use Rattle.seq_inst.specs.Members.{members}
-use Rattle.seq_solo.specs.Known.{group_at}
+use Rattle.seq_graph.specs.Known.{group_at}
 use Rattle.seq_solo.proofs.turn.+turn.Given as goal
 
 abbrev pub decreases-turn : goal.decreases-turn
-decreases-turn l = length (members (group_at l.search.now.rows.items l.place))
+decreases-turn l = length (members (group_at l.graph.now.rows.items l.place))

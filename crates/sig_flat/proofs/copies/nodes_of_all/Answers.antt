@@ -8,13 +8,20 @@ use Rattle.sig_flat.proofs.copies.nodes_of_all.Goals as goal
 pub bounds-patterns-instance : goal.bounds-patterns-instance
 bounds-patterns-instance c =
     let lt : c.loop-instance.instance-index < length c.args.placed.now = omega arith in
-    c.requires c.instance-item.result (c.loop-instance.instance-index, lt, sym c.instance-item.is)
+    c.requires.there c.instance-item.result (c.loop-instance.instance-index, lt, sym c.instance-item.is)
+
+pub copy_nodes-requires : goal.copy_nodes-requires
+copy_nodes-requires c =
+    let lt : c.loop-instance.instance-index < length c.args.placed.now = omega arith in
+    c.requires.shown c.instance-item.result (c.loop-instance.instance-index, lt, sym c.instance-item.is)
 
 pub loop-instance-preserved : goal.loop-instance-preserved
 loop-instance-preserved c =
     let lt : c.loop-instance.instance-index < length c.args.placed.now = omega arith in
-    let there = c.requires c.instance-item.result (c.loop-instance.instance-index, lt, sym c.instance-item.is) in
-    let row = c.index-patterns-instance.is ∙ get_or_default c.args.patterns.now c.instance-item.result.block c.index-patterns-instance.result no_pattern there in
-    c.in_ok-copy_nodes.ensures ∙ ap (λ l. l ++ map (node_copy c.instance-item.result) c.as_slice.result.now) c.loop-instance.invariant
-    ∙ ap (λ l. flat_map (node_copies c.args.patterns.now) (take c.loop-instance.instance-index c.args.placed.now) ++ map (node_copy c.instance-item.result) l) (c.as_slice.ensures ∙ ap (λ p. p.nodes) row)
-    ∙ flat_map-next (node_copies c.args.patterns.now) c.args.placed.now c.loop-instance.instance-index c.instance-item.result c.instance-item.is lt
+    let there = c.requires.there c.instance-item.result (c.loop-instance.instance-index, lt, sym c.instance-item.is) in
+    let row = c.index-patterns-instance.is ∙ get_or_default c.args.patterns.now c.instance-item.result.block c.index-patterns-instance.result no_pattern there in (
+      c.in_ok-copy_nodes.ensures.nodes ∙ ap (λ l. l ++ map (node_copy c.instance-item.result) c.as_slice.result.now) c.loop-instance.invariant.0
+          ∙ ap (λ l. flat_map (node_copies c.args.patterns.now) (take c.loop-instance.instance-index c.args.placed.now) ++ map (node_copy c.instance-item.result) l) (c.as_slice.ensures ∙ ap (λ p. p.nodes) row)
+          ∙ flat_map-next (node_copies c.args.patterns.now) c.args.placed.now c.loop-instance.instance-index c.instance-item.result c.instance-item.is lt,
+      c.in_ok-copy_nodes.ensures.labels c.loop-instance.invariant.1,
+    )

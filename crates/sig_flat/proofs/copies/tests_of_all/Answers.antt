@@ -10,12 +10,17 @@ bounds-patterns-instance c =
     let lt : c.loop-instance.instance-index < length c.args.placed.now = omega arith in
     c.requires.there c.instance-item.result (c.loop-instance.instance-index, lt, sym c.instance-item.is)
 
-pub copy_tests-requires : goal.copy_tests-requires
-copy_tests-requires c =
+pub copy_tests-requires-clause-fit : goal.copy_tests-requires-clause-fit
+copy_tests-requires-clause-fit c =
     let lt : c.loop-instance.instance-index < length c.args.placed.now = omega arith in
     let there = c.requires.there c.instance-item.result (c.loop-instance.instance-index, lt, sym c.instance-item.is) in
     let row = c.index-patterns-instance.is ∙ get_or_default c.args.patterns.now c.instance-item.result.block c.index-patterns-instance.result no_pattern there in
     subst (TestsFit c.instance-item.result) (sym (c.as_slice.ensures ∙ ap (λ p. p.tests) row)) (c.requires.fit c.instance-item.result (c.loop-instance.instance-index, lt, sym c.instance-item.is))
+
+pub copy_tests-requires-clause-shown : goal.copy_tests-requires-clause-shown
+copy_tests-requires-clause-shown c =
+    let lt : c.loop-instance.instance-index < length c.args.placed.now = omega arith in
+    c.requires.shown c.instance-item.result (c.loop-instance.instance-index, lt, sym c.instance-item.is)
 
 pub loop-instance-preserved : goal.loop-instance-preserved
 loop-instance-preserved c =
@@ -26,4 +31,5 @@ loop-instance-preserved c =
           ∙ ap (λ l. flat_map (test_copies c.args.patterns.now) (take c.loop-instance.instance-index c.args.placed.now) ++ map (test_copy c.instance-item.result) l) (c.as_slice.ensures ∙ ap (λ p. p.tests) row)
           ∙ flat_map-next (test_copies c.args.patterns.now) c.args.placed.now c.loop-instance.instance-index c.instance-item.result c.instance-item.is lt,
       c.in_ok-copy_tests.ensures.costs c.loop-instance.invariant.1,
+      c.in_ok-copy_tests.ensures.labels c.loop-instance.invariant.2,
     )

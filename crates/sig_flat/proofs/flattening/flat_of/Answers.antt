@@ -1,74 +1,14 @@
-use Rattle.std.proofs.Common.{◌≡◌, List, [], length, ap, sym, ◌∙◌, subst, arith}
-use Rattle.std.specs.Prelude.{slice_index_or}
-use Rattle.std.specs.List.{AllZip, Contains, flat_map}
-use Rattle.std.proofs.lemmas.List.{length-map}
-use Rattle.sig_flat.specs.declared.flat.Flat.{Flat}
-use Rattle.sig_flat.specs.declared.pattern.Pattern.{Pattern}
-use Rattle.sig_flat.specs.declared.links.LinkPattern.{LinkPattern}
-use Rattle.sig_flat.specs.declared.walk.Placed.{Placed}
-use Rattle.sig_flat.specs.Instances.{nodes, links, faults, tests}
-use Rattle.sig_flat.specs.Flats.{IsNodeOf, IsLinkOf, IsFaultOf, IsTestOf, IsFlatOf}
-use Rattle.sig_flat.specs.Patterns.{pattern_of}
-use Rattle.sig_flat.specs.Placed.{node_copies, link_copies, fault_copies, test_copies, no_pattern, LinksFit, FaultsFit, TestsFit}
-use Rattle.sig_flat.specs.Surveys.{patterns_of_model}
-use Rattle.sig_flat.proofs.ModelLaws.{is-valid}
+use Rattle.std.proofs.Common.{◌≤◌, ◌∙◌, arith}
+use Rattle.sig_flat.proofs.ModelLaws.{are-valid}
 use Rattle.sig_flat.proofs.flattening.flat_of.Goals as goal
 
-pub nodes_of_all-requires : goal.nodes_of_all-requires
-nodes_of_all-requires c = λ p i.
-    let there = c.in_ok-placing.ensures.there p (subst (λ (l : List Placed). Contains l p) c.as_slice-placed.ensures i) in
-    let long = ap length (c.as_slice-patterns.ensures.value ∙ c.requires.survey.patterns) ∙ length-map c.args.model.now.blocks (pattern_of c.args.model.now.signals c.args.model.now.modes) in
-    omega arith
-
-pub links_of_all-requires-clause-there : goal.links_of_all-requires-clause-there
-links_of_all-requires-clause-there c = λ p i.
-    let there = c.in_ok-placing.ensures.there p (subst (λ (l : List Placed). Contains l p) c.as_slice-placed.ensures i) in
-    let long = ap length c.as_slice.ensures.value ∙ c.in_ok-placing.ensures.long in
-    omega arith
-
-pub links_of_all-requires-clause-fit : goal.links_of_all-requires-clause-fit
-links_of_all-requires-clause-fit c = λ p i.
-    subst (λ (l : List (List LinkPattern)). LinksFit p (slice_index_or l p.block [])) (sym c.as_slice.ensures.value)
-    (c.in_ok-placing.ensures.links_fit p (subst (λ (l : List Placed). Contains l p) c.as_slice-placed.ensures i))
-
-pub faults_of_all-requires-clause-there : goal.faults_of_all-requires-clause-there
-faults_of_all-requires-clause-there c = λ p i.
-    let there = c.in_ok-placing.ensures.there p (subst (λ (l : List Placed). Contains l p) c.as_slice-placed.ensures i) in
-    let long = ap length (c.as_slice-patterns.ensures.value ∙ c.requires.survey.patterns) ∙ length-map c.args.model.now.blocks (pattern_of c.args.model.now.signals c.args.model.now.modes) in
-    omega arith
-
-pub faults_of_all-requires-clause-fit : goal.faults_of_all-requires-clause-fit
-faults_of_all-requires-clause-fit c = λ p i.
-    subst (λ (l : List Pattern). FaultsFit p (slice_index_or l p.block no_pattern).faults) (sym (c.as_slice-patterns.ensures.value ∙ c.requires.survey.patterns))
-    (c.in_ok-placing.ensures.faults_fit p (subst (λ (l : List Placed). Contains l p) c.as_slice-placed.ensures i))
-
-pub tests_of_all-requires-clause-there : goal.tests_of_all-requires-clause-there
-tests_of_all-requires-clause-there c = λ p i.
-    let there = c.in_ok-placing.ensures.there p (subst (λ (l : List Placed). Contains l p) c.as_slice-placed.ensures i) in
-    let long = ap length (c.as_slice-patterns.ensures.value ∙ c.requires.survey.patterns) ∙ length-map c.args.model.now.blocks (pattern_of c.args.model.now.signals c.args.model.now.modes) in
-    omega arith
-
-pub tests_of_all-requires-clause-fit : goal.tests_of_all-requires-clause-fit
-tests_of_all-requires-clause-fit c = λ p i.
-    subst (λ (l : List Pattern). TestsFit p (slice_index_or l p.block no_pattern).tests) (sym (c.as_slice-patterns.ensures.value ∙ c.requires.survey.patterns))
-    (c.in_ok-placing.ensures.tests_fit p (subst (λ (l : List Placed). Contains l p) c.as_slice-placed.ensures i))
-
-pub returns : goal.returns
-returns c =
-    let model = c.args.model.now in
-    let flat : Flat = record { good = c.get.result; modes = c.in_ok-modes.modes; nodes = c.in_ok-nodes.nodes; links = c.in_ok-links.links; faults = c.in_ok-faults.faults; tests = c.in_ok-tests.tests } in
-    let patterns : c.as_slice-patterns.result.now ≡ patterns_of_model c.args.model.now = c.as_slice-patterns.ensures.value ∙ c.requires.survey.patterns in
-    let placed = c.as_slice-placed.ensures in
-    let ip = c.in_ok-placing.ensures in
-    let is : IsFlatOf c.args.model.now flat = record {
-      good = c.get.ensures.value;
-      modes = c.in_ok-modes.ensures;
-      nodes = subst (AllZip (IsNodeOf c.args.model.now) (nodes c.args.model.now)) (sym (c.in_ok-nodes.ensures ∙ ap (λ (l : List Pattern). flat_map (node_copies l) c.as_slice-placed.result.now) patterns ∙ ap (flat_map (node_copies (patterns_of_model c.args.model.now))) placed)) ip.nodes;
-      links = subst (AllZip (IsLinkOf c.args.model.now) (links c.args.model.now)) (sym (c.in_ok-links.ensures ∙ ap (λ (l : List (List LinkPattern)). flat_map (link_copies l) c.as_slice-placed.result.now) c.as_slice.ensures.value ∙ ap (flat_map (link_copies c.in_ok-placing.placing.links.items)) placed)) ip.links;
-      faults = subst (AllZip (IsFaultOf c.args.model.now) (faults c.args.model.now)) (sym (c.in_ok-faults.ensures.faults ∙ ap (λ (l : List Pattern). flat_map (fault_copies l) c.as_slice-placed.result.now) patterns ∙ ap (flat_map (fault_copies (patterns_of_model c.args.model.now))) placed)) ip.faults;
-      tests = subst (AllZip (IsTestOf c.args.model.now) (tests c.args.model.now)) (sym (c.in_ok-tests.ensures.tests ∙ ap (λ (l : List Pattern). flat_map (test_copies l) c.as_slice-placed.result.now) patterns ∙ ap (flat_map (test_copies (patterns_of_model c.args.model.now))) placed)) ip.tests;
-    } in
+pub invariant_of-result : goal.invariant_of-result
+invariant_of-result c =
+    let items = c.requires.items in
+    let small : c.args.model.now.good ≤ 1000000 = (let same = c.get.ensures.value in let range = c.get.ensures.range in omega arith) in
     record {
-      flat = is;
-      valid = is-valid c.args.model.now c.requires.known c.requires.modes c.requires.within flat is (let v = c.get.ensures.value in let r = c.get.ensures.range in omega arith) c.in_ok-faults.ensures.weights c.in_ok-tests.ensures.costs;
+      valid = are-valid c.args.model.now c.requires.known c.requires.modes c.requires.within
+          c.get.result c.in_ok-modes.modes c.args.items.nodes c.args.items.links c.args.items.faults c.args.items.tests
+          c.get.ensures.value (c.in_ok-modes.ensures.same ∙ c.as_slice.ensures) items.nodes items.links items.faults items.tests
+          small items.weights items.costs c.in_ok-modes.ensures.names items.node_labels items.fault_labels items.test_labels;
     }

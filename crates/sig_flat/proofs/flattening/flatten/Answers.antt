@@ -13,8 +13,8 @@ known-model m v e b s = subst IsKnown (sym e) (known v b s)
 pub surveyed-requires : goal.surveyed-requires
 surveyed-requires c = let e = c.model-model.ensures in known-model c.model-model.result.now c.args.valid.now e.same e.sound e.modes
 
-pub flat_of-requires-clause-known : goal.flat_of-requires-clause-known
-flat_of-requires-clause-known c = let e = c.model-model.ensures in known-model c.model-model.result.now c.args.valid.now e.same e.sound e.modes
+pub unfolded-requires-clause-known : goal.unfolded-requires-clause-known
+unfolded-requires-clause-known c = let e = c.model-model.ensures in known-model c.model-model.result.now c.args.valid.now e.same e.sound e.modes
 
 pub returns-in-Some-clause-refused : goal.returns-in-Some-clause-refused
 returns-in-Some-clause-refused c =

@@ -1,8 +1,14 @@
 -- The line is valid: its lists are short, and each number in them is that of a node.
-use Rattle.std.proofs.Common.{◌≡◌, ℕ, zero, suc, ◌+◌, ◌<◌, ◌≤◌, List, [], ◌∷◌, ◌++◌, length, refl, sym, ap, ◌∙◌, arith, subst, inl}
-use Rattle.std.specs.Prelude.{Bool, true, false, ◌&&◌, nat_lt}
+use Rattle.std.proofs.Common.{◌≡◌, ℕ, zero, suc, ◌+◌, ◌<◌, ◌≤◌, List, [], ◌∷◌, ◌++◌, length, refl, sym, ap, ◌∙◌, arith, subst, inl, inr}
+use Rattle.std.specs.Prelude.{Bool, true, false, ◌&&◌, nat_eq, nat_lt}
 use Rattle.std.specs.List.{Contains, list_all}
-use Rattle.std.proofs.lemmas.Bool.{and_parts, ltb-true}
+use Rattle.std.proofs.lemmas.Bool.{and_parts, ltb-true, eqb-true, false≢true}
+use Rattle.std.proofs.lemmas.Nat.Bits.{bit_at-pow_other}
+use Rattle.std.proofs.lemmas.List.Elements.{Contains-push_cases}
+use Rattle.sig_types.specs.NameText.{is_name}
+use Rattle.sig_types.specs.LabelText.{is_label}
+use Rattle.sig_types.specs.Sets.{has_bit}
+use Rattle.sig_flat.specs.declared.flat.Node.{Node}
 use Rattle.std.proofs.lemmas.List.{length_push}
 use Rattle.sig_flat.specs.declared.flat.Fault.{Fault}
 use Rattle.sig_flat.specs.declared.flat.FlatLink.{FlatLink}
@@ -31,8 +37,24 @@ all-of-one P l0 l1 a e0 e1 p x i = of-one P a x p (subst (λ l. Contains l x) (e
 all-of-two : {A : Type 0} (P : A → Type 0) (l0 l1 l2 : List A) (a b : A) → l0 ≡ [] → l1 ≡ l0 ++ a ∷ [] → l2 ≡ l1 ++ b ∷ [] → P a → P b → (x : A) → Contains l2 x → P x
 all-of-two P l0 l1 l2 a b e0 e1 e2 p q x i = of-two P a b x p q (subst (λ l. Contains l x) (e2 ∙ ap (λ l. l ++ b ∷ []) (e1 ∙ ap (λ l. l ++ a ∷ []) e0)) i)
 
-pub returns : goal.returns
-returns c =
+all-of-four : {A : Type 0} (P : A → Type 0) (l0 l1 l2 l3 l4 : List A) (a b d e : A) → l0 ≡ [] → l1 ≡ l0 ++ a ∷ [] → l2 ≡ l1 ++ b ∷ [] → l3 ≡ l2 ++ d ∷ [] → l4 ≡ l3 ++ e ∷ [] → P a → P b → P d → P e → (x : A) → Contains l4 x → P x
+all-of-four P l0 l1 l2 l3 l4 a b d e e0 e1 e2 e3 e4 p q r s =
+    more l3 l4 e e4 (more l2 l3 d e3 (all-of-two P l0 l1 l2 a b e0 e1 e2 p q) r) s
+  where
+    more : (xs ys : List _) (y : _) → ys ≡ xs ++ y ∷ [] → ((x : _) → Contains xs x → P x) → P y → (x : _) → Contains ys x → P x
+    more xs ys y same h here x i = elim (Contains-push_cases xs y x (subst (λ l. Contains l x) same i)) [ inl before ↦ h x before | inr last ↦ subst P last here ]
+
+-- a text that is this label
+labelled : (text label : List ℕ) → text ≡ label → is_label label ≡ true → is_label text ≡ true
+labelled text label same is = ap is_label same ∙ is
+
+-- the first mode alone
+first-mode : (k : ℕ) → has_bit 1 k ≡ true → k < 1
+first-mode zero h = omega arith
+first-mode (suc k) h = absurd (false≢true (sym (ap (λ b. nat_eq b 1) (bit_at-pow_other 0 (suc k) (λ e. let no : ⊥ = omega arith in no))) ∙ h))
+
+pub invariant_of-result : goal.invariant_of-result
+invariant_of-result c =
     let m0 = ap length c.new-modes.ensures in
     let m1 = longer _ _ _ c.in_ok-push.ensures.ok in
     let n0 = ap length c.new-nodes.ensures in
@@ -49,18 +71,29 @@ returns c =
     let t1 = longer _ _ _ c.in_ok-push-8.ensures.ok in
     let few = c.requires.few in
     record {
-      modes = (omega arith, omega arith);
-      nodes = omega arith;
-      links = omega arith;
-      faults = omega arith;
-      tests = omega arith;
-      good = omega arith;
-      link_ends = λ link i.
-          let both = and_parts (nat_lt link.from 4) (nat_lt link.to 4) (of-all (λ (l : FlatLink). nat_lt l.from 4 && nat_lt l.to 4) c.args.links link c.requires.ends i) in
-          let from = ltb-true link.from 4 both.0 in
-          let to = ltb-true link.to 4 both.1 in
-          (omega arith, omega arith);
-      fault_parts = all-of-two (λ (f : Fault). (f.node < length c.push-5.new.self) × (1 ≤ f.weight) × (f.weight ≤ 1000000)) _ _ _ _ _ c.new-faults.ensures c.in_ok-push-6.ensures.ok c.in_ok-push-7.ensures.ok (omega arith, omega arith, omega arith) (omega arith, omega arith, omega arith);
-      test_points = all-of-one (λ (t : FlatTest). (t.node < length c.push-5.new.self) × (t.mode < length c.push.new.self) × (1 ≤ t.cost) × (t.cost ≤ 1000000)) _ _ _ c.new-tests.ensures c.in_ok-push-8.ensures.ok (omega arith, omega arith, omega arith, omega arith);
-      state = inl (omega arith);
+      valid = record {
+        modes = (omega arith, omega arith);
+        nodes = omega arith;
+        links = omega arith;
+        faults = omega arith;
+        tests = omega arith;
+        good = omega arith;
+        link_ends = λ link i.
+            let both = and_parts (nat_lt link.from 4) (nat_lt link.to 4 && nat_eq link.modes.0 1) (of-all (λ (l : FlatLink). nat_lt l.from 4 && (nat_lt l.to 4 && nat_eq l.modes.0 1)) c.args.links link c.requires.ends i) in
+            let from = ltb-true link.from 4 both.0 in
+            let to = ltb-true link.to 4 (and_parts (nat_lt link.to 4) (nat_eq link.modes.0 1) both.1).0 in
+            (omega arith, omega arith);
+        link_modes = λ link i mode on.
+            let both = and_parts (nat_lt link.from 4) (nat_lt link.to 4 && nat_eq link.modes.0 1) (of-all (λ (l : FlatLink). nat_lt l.from 4 && (nat_lt l.to 4 && nat_eq l.modes.0 1)) c.args.links link c.requires.ends i) in
+            let first = first-mode mode (subst (λ w. has_bit w mode ≡ true) (eqb-true link.modes.0 1 (and_parts (nat_lt link.to 4) (nat_eq link.modes.0 1) both.1).1) on) in
+            omega arith;
+        fault_parts = all-of-two (λ (f : Fault). (f.node < length c.push-5.new.self) × (1 ≤ f.weight) × (f.weight ≤ 1000000)) _ _ _ _ _ c.new-faults.ensures c.in_ok-push-6.ensures.ok c.in_ok-push-7.ensures.ok (omega arith, omega arith, omega arith) (omega arith, omega arith, omega arith);
+        test_points = all-of-one (λ (t : FlatTest). (t.node < length c.push-5.new.self) × (t.mode < length c.push.new.self) × (1 ≤ t.cost) × (t.cost ≤ 1000000)) _ _ _ c.new-tests.ensures c.in_ok-push-8.ensures.ok (omega arith, omega arith, omega arith, omega arith);
+        state = omega arith;
+        mode_names = all-of-one (λ n. is_name n ≡ true) _ _ _ c.new-modes.ensures c.in_ok-push.ensures.ok (subst (λ n. is_name n ≡ true) c.as_bytes.ensures.value c.as_bytes.ensures.name);
+        node_labels = all-of-four (λ (n : Node). is_label n.path ≡ true) _ _ _ _ _ _ _ _ _ c.new-nodes.ensures c.in_ok-push-2.ensures.ok c.in_ok-push-3.ensures.ok c.in_ok-push-4.ensures.ok c.in_ok-push-5.ensures.ok
+            (labelled _ _ c.in_ok-node.ensures refl) (labelled _ _ c.in_ok-node-2.ensures refl) (labelled _ _ c.in_ok-node-3.ensures refl) (labelled _ _ c.in_ok-node-4.ensures refl);
+        fault_labels = all-of-two (λ (f : Fault). is_label f.label ≡ true) _ _ _ _ _ c.new-faults.ensures c.in_ok-push-6.ensures.ok c.in_ok-push-7.ensures.ok (labelled _ _ c.in_ok-of.ensures refl) (labelled _ _ c.in_ok-of-2.ensures refl);
+        test_labels = all-of-one (λ (t : FlatTest). is_label t.label ≡ true) _ _ _ c.new-tests.ensures c.in_ok-push-8.ensures.ok (labelled _ _ c.in_ok-of-3.ensures refl);
+      };
     }

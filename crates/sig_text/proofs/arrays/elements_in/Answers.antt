@@ -1,7 +1,7 @@
 use Rattle.std.proofs.Common.{◌+◌, ◌<◌, length, drop, arith}
 use Rattle.std.proofs.lemmas.Result.{err_from_is_err_and}
 use Rattle.toml.specs.View.{view, items_view}
-use Rattle.sig_text.specs.Places.{at_element}
+use Rattle.sig_types.specs.Spots.{at_element}
 use Rattle.sig_text.specs.Values.{each_breaches}
 use Rattle.sig_text.proofs.Elements.{each_breaches_turn}
 use Rattle.sig_text.proofs.First.{told_before}

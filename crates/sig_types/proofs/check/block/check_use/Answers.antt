@@ -8,7 +8,11 @@ pub returns-in-Some : goal.returns-in-Some
 returns-in-Some c =
     let known = sym c.in-Some.ensures.found in
     let number = position-index (bytes_eq c.args.used.now.block) (block_names c.args.index.now) c.in-Some.other (sym c.in-Some.ensures.number) in
-    rw (known, number) c.refuse_if.ensures
+    let told = rw (c.place-place.ensures, c.at.ensures, c.item-spot.ensures, c.block.ensures) at c.refuse_if.ensures in
+    rw (known, number) told
 
 pub returns-in-None : goal.returns-in-None
-returns-in-None c = let unknown = sym c.in-None.ensures.found in rw unknown c.refuse_if-in-None.ensures
+returns-in-None c =
+    let unknown = sym c.in-None.ensures.found in
+    let told = rw (c.place-place.ensures, c.at.ensures, c.item-spot.ensures, c.block.ensures) at c.refuse_if-in-None.ensures in
+    rw unknown told

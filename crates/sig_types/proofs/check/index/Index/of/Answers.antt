@@ -6,19 +6,19 @@ use Rattle.sig_types.proofs.check.index.Index.of.Goals as goal
 
 pub returns-in_err-signals-clause-verdict : goal.returns-in_err-signals-clause-verdict
 returns-in_err-signals-clause-verdict c =
-    let told = rw (c.as_slice.ensures, c.in_document.ensures) at c.in_err-signals.ensures.verdict in
+    let told = rw (c.as_slice.ensures, c.at.ensures, c.document-document.ensures) at c.in_err-signals.ensures.verdict in
     handed-on _ _ _ c.from_residual.ensures.1 (tells-left _ _ _ (tells-left _ _ _ told.says))
 
 pub returns-in_err-modes-clause-verdict : goal.returns-in_err-modes-clause-verdict
 returns-in_err-modes-clause-verdict c =
-    let signals = rw (c.as_slice.ensures, c.in_document.ensures) at c.in_ok-signals.ensures.verdict in
-    let told = rw (c.as_slice-2.ensures, c.in_document-2.ensures) at c.in_err-modes.ensures.verdict in
+    let signals = rw (c.as_slice.ensures, c.at.ensures, c.document-document.ensures) at c.in_ok-signals.ensures.verdict in
+    let told = rw (c.as_slice-2.ensures, c.at-2.ensures, c.document-document.ensures) at c.in_err-modes.ensures.verdict in
     handed-on _ _ _ c.from_residual-in_err-modes.ensures.1 (tells-left _ _ _ (tells-right _ _ _ signals.says told.says))
 
 pub returns-in_err-blocks-clause-verdict : goal.returns-in_err-blocks-clause-verdict
 returns-in_err-blocks-clause-verdict c =
-    let signals = rw (c.as_slice.ensures, c.in_document.ensures) at c.in_ok-signals.ensures.verdict in
-    let modes = rw (c.as_slice-2.ensures, c.in_document-2.ensures) at c.in_ok-modes.ensures.verdict in
+    let signals = rw (c.as_slice.ensures, c.at.ensures, c.document-document.ensures) at c.in_ok-signals.ensures.verdict in
+    let modes = rw (c.as_slice-2.ensures, c.at-2.ensures, c.document-document.ensures) at c.in_ok-modes.ensures.verdict in
     let told = rw c.as_slice-3.ensures at c.in_err-blocks.ensures.verdict in
     handed-on _ _ _ c.from_residual-in_err-blocks.ensures.1 (tells-right _ _ _ (none-in_both _ _ signals.says modes.says) told.says)
 

@@ -1,0 +1,252 @@
+-- The code's events are the theory's, and so keep the rows sound: raising and capping a row changes one row of the list, and
+-- entering adds one.
+use Rattle.std.proofs.Common.{◌≡◌, ℕ, zero, suc, ◌*◌, ◌<◌, ◌≤◌, max, min, List, [], ◌∷◌, ◌++◌, length, set, refl, sym, ap, ◌∙◌, arith, inl, inr, subst, Some, length-append}
+use Rattle.std.specs.Prelude.{false, cond, slice_get}
+use Rattle.std.proofs.lemmas.Bool.{cases_Bool}
+use Rattle.std.proofs.lemmas.List.{get_or-set_same, map-append}
+use Rattle.std.proofs.lemmas.List.Elements.{All-set, All-push}
+use Rattle.std.proofs.Math.ListN.{length-set}
+use Rattle.seq_theory.specs.Problem.{Problem, is_end, splitting, least_of, pass_part, fail_part, weight_of}
+use Rattle.seq_theory.specs.Greedy.{greedy_cost}
+use Rattle.seq_theory.specs.Graph.{same_group, is_entered, step_value, sum_with, IsReal}
+use Rattle.seq_theory.specs.Rows.{Row as PlainRow, no_value, groups_of, IsSound, row_of, up_or, known_up, most_low, least_up, enter, raise, cap, after, change_at}
+use Rattle.seq_theory.proofs.RowLaws.{events-sound, wanted-within}
+use Rattle.seq_theory.proofs.PartsRecursion.{filter_map-agree}
+use Rattle.seq_huff.specs.Bounds.{greatest_cost}
+use Rattle.seq_huff.proofs.LeastBounds.{weighed}
+use Rattle.seq_inst.specs.declared.group.Group.{Group}
+use Rattle.seq_inst.specs.declared.instance.Instance.{Instance}
+use Rattle.seq_inst.specs.declared.outcome.Row.{Row}
+use Rattle.seq_inst.specs.Members.{members}
+use Rattle.seq_inst.specs.Instances.{problem_of}
+use Rattle.seq_core.specs.RowsOf.{row_of as row_from, rows_of as rows_from}
+use Rattle.seq_graph.specs.Known.{AreRows, HasSmallUp, no_row, row_at, group_at, raised_at, capped_at, Narrows, IsClosedAt}
+use Rattle.seq_graph.proofs.KnownLaws.{sized, row-bounds, row-within}
+use Rattle.std.specs.List.{filter_map}
+use Rattle.seq_theory.proofs.ValLaws.{least_of-first}
+use Rattle.seq_huff.proofs.GreedyCode.{greedy-small}
+
+-- ---- lists of rows ----
+
+raised-rows : (rows : List Row) (k n to : ℕ) → n ≡ (row_at rows k).low → k < length rows → rows_from (set rows k (record (row_at rows k) { low = max n to })) ≡ after (rows_from rows) (raise k to)
+raised-rows [] k n to is lt = absurd (let bad : ⊥ = omega arith in bad)
+raised-rows (r ∷ rest) zero n to is lt = ap (λ m. record { group = members r.group; low = max m to; up = r.up } ∷ rows_from rest) is
+raised-rows (r ∷ rest) (suc k) n to is lt = ap (λ l. row_from r ∷ l) (raised-rows rest k n to is (omega arith))
+
+pub raised-from : (rows : List Row) (k to : ℕ) → k < length rows → rows_from (raised_at rows k to) ≡ after (rows_from rows) (raise k to)
+raised-from rows k to lt = raised-rows rows k (row_at rows k).low to refl lt
+
+capped-rows : (rows : List Row) (k n to : ℕ) → n ≡ (row_at rows k).up → k < length rows → rows_from (set rows k (record (row_at rows k) { up = min n to })) ≡ after (rows_from rows) (cap k to)
+capped-rows [] k n to is lt = absurd (let bad : ⊥ = omega arith in bad)
+capped-rows (r ∷ rest) zero n to is lt = ap (λ m. record { group = members r.group; low = r.low; up = min m to } ∷ rows_from rest) is
+capped-rows (r ∷ rest) (suc k) n to is lt = ap (λ l. row_from r ∷ l) (capped-rows rest k n to is (omega arith))
+
+pub capped-from : (rows : List Row) (k to : ℕ) → k < length rows → rows_from (capped_at rows k to) ≡ after (rows_from rows) (cap k to)
+capped-from rows k to lt = capped-rows rows k (row_at rows k).up to refl lt
+
+pub row-get : (rows : List Row) (k : ℕ) → k < length rows → slice_get (rows_from rows) k ≡ Some (row_from (row_at rows k))
+row-get [] k lt = absurd (let bad : ⊥ = omega arith in bad)
+row-get (r ∷ rest) zero lt = refl
+row-get (r ∷ rest) (suc k) lt = row-get rest k (omega arith)
+
+-- ---- narrower rows ----
+
+pub Narrows-refl : (rows : List Row) → Narrows rows rows
+Narrows-refl [] = tt
+Narrows-refl (r ∷ rest) = (refl, omega arith, omega arith, Narrows-refl rest)
+
+pub Narrows-trans : (a b c : List Row) → Narrows a b → Narrows b c → Narrows a c
+Narrows-trans [] [] c h k = k
+Narrows-trans [] (s ∷ ss) c h k = absurd h
+Narrows-trans (r ∷ rs) [] c h k = absurd h
+Narrows-trans (r ∷ rs) (s ∷ ss) [] h k = absurd k
+Narrows-trans (r ∷ rs) (s ∷ ss) (t ∷ ts) h k =
+    let l1 = h.1 in
+    let l2 = k.1 in
+    let u1 = h.2 in
+    let u2 = k.2 in
+    (k.0 ∙ h.0, omega arith, omega arith, Narrows-trans rs ss ts h.3 k.3)
+
+pub Narrows-set : (rows : List Row) (k : ℕ) (x : Row) → k < length rows → x.group ≡ group_at rows k → (row_at rows k).low ≤ x.low → x.up ≤ (row_at rows k).up → Narrows rows (set rows k x)
+Narrows-set [] k x lt g l u = tt
+Narrows-set (r ∷ rest) zero x lt g l u = (g, l, u, Narrows-refl rest)
+Narrows-set (r ∷ rest) (suc k) x lt g l u = (refl, omega arith, omega arith, Narrows-set rest k x (omega arith) g l u)
+
+pub length-Narrows : (a b : List Row) → Narrows a b → length b ≡ length a
+length-Narrows [] [] h = refl
+length-Narrows [] (s ∷ ss) h = absurd h
+length-Narrows (r ∷ rs) [] h = absurd h
+length-Narrows (r ∷ rs) (s ∷ ss) h = ap suc (length-Narrows rs ss h.3)
+
+pub group-Narrows : (a b : List Row) (k : ℕ) → Narrows a b → k < length a → group_at b k ≡ group_at a k
+group-Narrows [] b k h lt = absurd (let bad : ⊥ = omega arith in bad)
+group-Narrows (r ∷ rs) [] k h lt = absurd h
+group-Narrows (r ∷ rs) (s ∷ ss) zero h lt = h.0
+group-Narrows (r ∷ rs) (s ∷ ss) (suc k) h lt = group-Narrows rs ss k h.3 (omega arith)
+
+pub up-Narrows : (a b : List Row) (k : ℕ) → Narrows a b → k < length a → (row_at b k).up ≤ (row_at a k).up
+up-Narrows [] b k h lt = absurd (let bad : ⊥ = omega arith in bad)
+up-Narrows (r ∷ rs) [] k h lt = absurd h
+up-Narrows (r ∷ rs) (s ∷ ss) zero h lt = h.2
+up-Narrows (r ∷ rs) (s ∷ ss) (suc k) h lt = up-Narrows rs ss k h.3 (omega arith)
+
+-- ---- raising changes no up ----
+
+up-changed : (rows : List PlainRow) (k to : ℕ) (group : List ℕ) → up_or (row_of (after rows (raise k to)) group) ≡ up_or (row_of rows group)
+up-changed [] k to group = refl
+up-changed (r ∷ rest) zero to group = elim (cases_Bool (same_group group r.group)) [ inl y ↦ rw y refl | inr n ↦ rw n refl ]
+up-changed (r ∷ rest) (suc k) to group = elim (cases_Bool (same_group group r.group)) [ inl y ↦ rw y refl | inr n ↦ rw n (up-changed rest k to group) ]
+
+module _ (p : Problem) where
+  known_up-raised : (rows : List PlainRow) (k to : ℕ) (group : List ℕ) → known_up p (after rows (raise k to)) group ≡ known_up p rows group
+  known_up-raised rows k to group = ap (λ o. cond (is_end p group) (Some 0) o) (up-changed rows k to group)
+
+  pub least_up-raised : (rows : List PlainRow) (k to : ℕ) (group : List ℕ) → least_up p (after rows (raise k to)) group ≡ least_up p rows group
+  least_up-raised rows k to group = ap (λ l. least_of (greedy_cost p group ∷ l)) (filter_map-agree (step_value p (known_up p (after rows (raise k to))) group) (step_value p (known_up p rows) group) (splitting p group) (λ t i.
+      ap (λ a. sum_with (p.cost t * weight_of p group) a (known_up p (after rows (raise k to)) (fail_part p t group))) (known_up-raised rows k to (pass_part p t group))
+      ∙ ap (λ b. sum_with (p.cost t * weight_of p group) (known_up p rows (pass_part p t group)) b) (known_up-raised rows k to (fail_part p t group))))
+
+  sound-more : (n m : ℕ) (rows : List PlainRow) → n ≤ m → IsSound p n rows → IsSound p m rows
+  sound-more n m rows le s = record {
+    few = (let f = s.few in omega arith);
+    distinct = s.distinct;
+    real = s.real;
+    lows = s.lows;
+    ups = s.ups;
+  }
+
+length-from : (rows : List Row) → length (rows_from rows) ≡ length rows
+length-from [] = refl
+length-from (r ∷ rest) = ap suc (length-from rest)
+
+-- ---- refreshing one row ----
+
+-- what the code owes where it raises a row to low, and then caps it to up
+pub record IsRefreshed (p : Problem) (old new : List Row) (k low up : ℕ) : Type 0 where
+  pub known : AreRows p new
+  pub narrows : Narrows old new
+  pub closes : up ≤ low → IsClosedAt new k
+
+module _ (inst : Instance) (rows : List Row) (k low up : ℕ) (known : AreRows (problem_of inst) rows) (lt : k < length rows)
+    (low_is : low ≡ most_low (problem_of inst) (rows_from rows) (members (group_at rows k)))
+    (up_is : least_up (problem_of inst) (rows_from rows) (members (group_at rows k)) ≤ up)
+    (small : up ≤ greatest_cost) where
+  raised-long : length (raised_at rows k low) ≡ length rows
+  raised-long = length-set rows k _
+
+  raised-row : row_at (raised_at rows k low) k ≡ record (row_at rows k) { low = max (row_at rows k).low low }
+  raised-row = get_or-set_same rows k _ no_row lt
+
+  raised-sound : IsSound (problem_of inst) (length rows) (rows_from (raised_at rows k low))
+  raised-sound = subst (IsSound (problem_of inst) (length rows)) (sym (raised-from rows k low lt))
+      (events-sound (problem_of inst) (length rows) (rows_from rows) (raise k low ∷ []) (sized inst) inst.valid.told known.sound
+      ((row_from (row_at rows k), row-get rows k lt, (let le : low ≤ most_low (problem_of inst) (rows_from rows) (members (group_at rows k)) = omega arith in le)), tt))
+
+  capped-sound : IsSound (problem_of inst) (length rows) (rows_from (capped_at (raised_at rows k low) k up))
+  capped-sound =
+      let lt2 : k < length (raised_at rows k low) = (let l = raised-long in omega arith) in
+      let same : least_up (problem_of inst) (rows_from (raised_at rows k low)) (members (group_at rows k)) ≡ least_up (problem_of inst) (rows_from rows) (members (group_at rows k)) =
+      ap (λ l. least_up (problem_of inst) l (members (group_at rows k))) (raised-from rows k low lt) ∙ least_up-raised (problem_of inst) (rows_from rows) k low (members (group_at rows k)) in
+      subst (IsSound (problem_of inst) (length rows)) (sym (capped-from (raised_at rows k low) k up lt2))
+      (events-sound (problem_of inst) (length rows) (rows_from (raised_at rows k low)) (cap k up ∷ []) (sized inst) inst.valid.told raised-sound (
+        (
+          row_from (row_at (raised_at rows k low) k),
+          row-get (raised_at rows k low) k lt2,
+          subst (λ (r : Row). least_up (problem_of inst) (rows_from (raised_at rows k low)) (members r.group) ≤ up) (sym raised-row) (omega arith),
+        ),
+        tt,
+      ))
+
+  capped-row : row_at (capped_at (raised_at rows k low) k up) k ≡ record { group = group_at rows k; low = max (row_at rows k).low low; up = min (row_at rows k).up up }
+  capped-row = get_or-set_same (raised_at rows k low) k _ no_row (let l = raised-long in omega arith) ∙ ap (λ (r : Row). record r { up = min r.up up }) raised-row
+
+  capped-long : length (capped_at (raised_at rows k low) k up) ≡ length rows
+  capped-long = length-set (raised_at rows k low) k _ ∙ raised-long
+
+  capped-known : AreRows (problem_of inst) (capped_at (raised_at rows k low) k up)
+  capped-known =
+      let lt2 : k < length (raised_at rows k low) = (let l = raised-long in omega arith) in
+      record {
+        sound = subst (λ n. IsSound (problem_of inst) n (rows_from (capped_at (raised_at rows k low) k up))) (sym capped-long) capped-sound;
+        small = All-set HasSmallUp (raised_at rows k low) k _ (inr (let m : min (row_at (raised_at rows k low) k).up up ≤ greatest_cost = omega arith in m)) (All-set HasSmallUp rows k _ (known.small k no_row lt) known.small);
+      }
+
+  pub is-refreshed : (new : List Row) → new ≡ capped_at (raised_at rows k low) k up → IsRefreshed (problem_of inst) rows new k low up
+  is-refreshed new is = subst (λ l. IsRefreshed (problem_of inst) rows l k low up) (sym is)
+      (let lt2 : k < length (raised_at rows k low) = (let l = raised-long in omega arith) in
+      record {
+        known = capped-known;
+        narrows = Narrows-trans rows (raised_at rows k low) (capped_at (raised_at rows k low) k up) (Narrows-set rows k _ lt refl (omega arith) (omega arith)) (Narrows-set (raised_at rows k low) k _ lt2 refl (omega arith) (omega arith));
+        closes = λ le.
+            let lt3 : k < length (capped_at (raised_at rows k low) k up) = (let l = capped-long in omega arith) in
+            let b = row-bounds (problem_of inst) (capped_at (raised_at rows k low) k up) capped-known (weighed inst) inst.valid.told k lt3 in
+            let between : (row_at (capped_at (raised_at rows k low) k up) k).low ≤ (row_at (capped_at (raised_at rows k low) k up) k).up = (let b0 = b.0 in let b1 = b.1 in omega arith) in
+            subst (λ (r : Row). r.low ≡ r.up) (sym capped-row) (let both = subst (λ (r : Row). r.low ≤ r.up) capped-row between in omega arith);
+      })
+
+-- ---- entering a group ----
+
+change-last : (rows : List PlainRow) (r : PlainRow) (f : PlainRow → PlainRow) → change_at (rows ++ r ∷ []) (length rows) f ≡ rows ++ f r ∷ []
+change-last [] r f = refl
+change-last (s ∷ rest) r f = ap (λ l. s ∷ l) (change-last rest r f)
+
+get-last : (rows : List PlainRow) (r : PlainRow) → slice_get (rows ++ r ∷ []) (length rows) ≡ Some r
+get-last [] r = refl
+get-last (s ∷ rest) r = get-last rest r
+
+-- a group that is entered is capped at once by what greedy costs
+pub entered-known : (inst : Instance) (rows : List Row) (g : Group) (up : ℕ) → AreRows (problem_of inst) rows → IsReal (problem_of inst) (members g) → is_entered (groups_of (rows_from rows)) (members g) ≡ false → up ≡ greedy_cost (problem_of inst) (members g)
+    → AreRows (problem_of inst) (rows ++ record { group = g; low = 0; up = up } ∷ [])
+entered-known inst rows g up known real new up_is =
+    let p = problem_of inst in
+    let row : Row = record { group = g; low = 0; up = up } in
+    let fresh : PlainRow = record { group = members g; low = 0; up = no_value } in
+    let long = length-append rows (row ∷ []) in
+    let more = length-from rows in
+    let small = greedy-small inst g (wanted-within p (members g) real.wanted) in
+    let first = least_of-first (greedy_cost p (members g)) (filter_map (step_value p (known_up p (rows_from rows ++ fresh ∷ [])) (members g)) (splitting p (members g))) in
+    let least : min no_value up ≡ up = omega arith in
+    let same : rows_from (rows ++ row ∷ []) ≡ change_at (rows_from rows ++ fresh ∷ []) (length (rows_from rows)) (λ r. record { group = r.group; low = r.low; up = min r.up up }) =
+    map-append row_from rows (row ∷ []) ∙ ap (λ n. rows_from rows ++ record { group = members g; low = 0; up = n } ∷ []) (sym least) ∙ sym (change-last (rows_from rows) fresh (λ r. record { group = r.group; low = r.low; up = min r.up up })) in
+    record {
+      sound = subst (IsSound p (length (rows ++ row ∷ []))) (sym same)
+          (events-sound p (length (rows ++ row ∷ [])) (rows_from rows) (enter (members g) ∷ cap (length (rows_from rows)) up ∷ []) (sized inst) inst.valid.told (sound-more p (length rows) (length (rows ++ row ∷ [])) (rows_from rows) (omega arith) known.sound)
+          ((real, new, omega arith), ((fresh, get-last (rows_from rows) fresh, omega arith), tt)));
+      small = All-push HasSmallUp rows row known.small (inr (let s : up ≤ greatest_cost = omega arith in s));
+    }
+
+pub Narrows-last : (rows : List Row) (r s : Row) → s.group ≡ r.group → r.low ≤ s.low → s.up ≤ r.up → Narrows (rows ++ r ∷ []) (rows ++ s ∷ [])
+Narrows-last [] r s g l u = (g, l, u, tt)
+Narrows-last (x ∷ rest) r s g l u = (refl, omega arith, omega arith, Narrows-last rest r s g l u)
+
+-- in the words of the code, which may cap to less than the rows allow where this is no less than the row's own up
+pub refresh-holds : (inst : Instance) (rows raised new : List Row) (k low up : ℕ) → AreRows (problem_of inst) rows → k < length rows
+    → low ≡ most_low (problem_of inst) (rows_from rows) (members (group_at rows k))
+    → min (row_at rows k).up (least_up (problem_of inst) (rows_from rows) (members (group_at rows k))) ≤ up → up ≤ greedy_cost (problem_of inst) (members (group_at rows k))
+    → raised ≡ raised_at rows k low → new ≡ capped_at raised k up → IsRefreshed (problem_of inst) rows new k low up
+refresh-holds inst rows raised new k low up known lt low_is above below raised_is new_is =
+    let p = problem_of inst in
+    let g = members (group_at rows k) in
+    let least = least_up p (rows_from rows) g in
+    let to = max up least in
+    let small = greedy-small inst (group_at rows k) (row-within p rows known k lt) in
+    let first = least_of-first (greedy_cost p g) (filter_map (step_value p (known_up p (rows_from rows)) g) (splitting p g)) in
+    let row : row_at (raised_at rows k low) k ≡ record (row_at rows k) { low = max (row_at rows k).low low } = get_or-set_same rows k _ no_row lt in
+    let both : min (row_at (raised_at rows k low) k).up up ≡ min (row_at (raised_at rows k low) k).up to = (let e = ap (λ (r : Row). r.up) row in omega arith) in
+    let same : capped_at (raised_at rows k low) k up ≡ capped_at (raised_at rows k low) k to = ap (λ n. set (raised_at rows k low) k (record (row_at (raised_at rows k low) k) { up = n })) both in
+    let done : IsRefreshed p rows new k low to = is-refreshed inst rows k low to known lt low_is (omega arith) (omega arith) new (new_is ∙ ap (λ l. capped_at l k up) raised_is ∙ same) in
+    let long : length new ≡ length rows = length-Narrows rows new done.narrows in
+    record {
+      known = done.known;
+      narrows = done.narrows;
+      closes = λ le.
+          let is : row_at new k ≡ record { group = group_at rows k; low = max (row_at rows k).low low; up = min (row_at rows k).up to } =
+          ap (λ l. row_at l k) (new_is ∙ ap (λ l. capped_at l k up) raised_is ∙ same) ∙ get_or-set_same (raised_at rows k low) k _ no_row (let l = length-set rows k (record (row_at rows k) { low = max (row_at rows k).low low }) in omega arith) ∙ ap (λ (r : Row). record r { up = min r.up to }) row in
+          let b = row-bounds p new done.known (weighed inst) inst.valid.told k (omega arith) in
+          let b0 = b.0 in
+          let b1 = b.1 in
+          let el : (row_at new k).low ≡ max (row_at rows k).low low = ap (λ (r : Row). r.low) is in
+          let eu : (row_at new k).up ≡ min (row_at rows k).up to = ap (λ (r : Row). r.up) is in
+          let ebu : min (row_at rows k).up up ≡ min (row_at rows k).up to = omega arith in
+          omega arith;
+    }

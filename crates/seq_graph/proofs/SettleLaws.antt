@@ -1,0 +1,184 @@
+-- Where the rows of all smaller groups are settled, what the parts of a group count is their low and their value over the rows'
+-- groups. So the row that its tests tighten is settled, too: all its tests give its low; and of those that give its value one is
+-- evaluated, or else greedy costs no more. For a test that was left out gives more than the row's up, which is no less than the
+-- value, and one that waits has a part without a value.
+use Rattle.std.proofs.Common.{◌≡◌, ℕ, zero, suc, ◌+◌, ◌*◌, ◌<◌, ◌≤◌, min, List, [], ◌∷◌, length, length-set, map, set, slice_get, slice_index, get_or-set_same, get_or-set_other, refl, sym, ap, ◌∙◌, arith, inl, inr, subst, Some, None}
+use Rattle.std.specs.List.{filter_map}
+use Rattle.seq_theory.specs.Problem.{IsIn, IsWithin, pass_part, fail_part, fails, splitting, weight_of}
+use Rattle.seq_theory.specs.Bound.{step_sum}
+use Rattle.seq_theory.specs.Greedy.{greedy_cost}
+use Rattle.seq_theory.specs.Graph.{low, val, step_value}
+use Rattle.seq_theory.specs.Rows.{known_low, known_up, least_up}
+use Rattle.seq_theory.proofs.GroupLaws.{pass_part_smaller, fail_part_smaller}
+use Rattle.seq_theory.proofs.GreedyLaws.{part-within}
+use Rattle.seq_theory.proofs.PartsRecursion.{splitting-splits}
+use Rattle.seq_theory.proofs.LowLaws.{low-le-least}
+use Rattle.seq_theory.proofs.ValLaws.{least-le-val, least_of-first, least_of-values-le, IsLeastValue, is_first, is_at, least_value, values-at_least, sum_with-parts}
+use Rattle.seq_huff.proofs.CountedLaws.{counted-length, counted-below}
+use Rattle.seq_huff.proofs.LeastBounds.{weighed}
+use Rattle.seq_inst.specs.declared.group.Group.{Group}
+use Rattle.seq_inst.specs.declared.instance.Instance.{Instance}
+use Rattle.seq_inst.specs.declared.outcome.Row.{Row}
+use Rattle.seq_inst.specs.Members.{members}
+use Rattle.seq_inst.specs.Instances.{problem_of}
+use Rattle.seq_graph.specs.declared.kept.Kept.{Kept}
+use Rattle.seq_graph.specs.declared.kept.Split.{Split}
+use Rattle.seq_graph.specs.declared.kept.Waiting.{Waiting}
+use Rattle.seq_graph.specs.KeptOf.{Waits}
+use Rattle.seq_graph.specs.Numbered.{Numbered}
+use Rattle.seq_core.specs.RowsOf.{rows_of as rows_from}
+use Rattle.seq_core.specs.Settled.{groups_in, value_or, size_at, settled_row, settled_rows, AreSettling, IsAmongFirst}
+use Rattle.seq_graph.proofs.KeptLaws.{all-waits}
+use Rattle.seq_core.proofs.SettleLaws.{known_low-settled, known_up-settled, least_up-settled, raised-settled, capped-settled, sound-settling, same-groups, settled-more, settled-all}
+use Rattle.seq_core.proofs.SettleSteps.{HasOrder, turns-below, turns-next, turns-all}
+use Rattle.seq_graph.specs.declared.graph.Count.{Count}
+use Rattle.seq_graph.specs.Known.{AreRows, AreKnown, no_row, row_at, group_at, splits_in, splits_at, waiting_in, waiting_at}
+use Rattle.seq_graph.specs.Looks.{NoneIsValued}
+use Rattle.seq_graph.specs.Settling.{evaluated_up, tightened_row, AreSettledBelow}
+use Rattle.seq_graph.proofs.KnownLaws.{row-within}
+use Rattle.seq_graph.proofs.SplitLaws.{kept-there}
+use Rattle.seq_graph.proofs.CoverLaws.{test-listed}
+
+-- where the smaller rows are settled, sound rows are settling, and these are done
+settling : (inst : Instance) (rows : List Row) → AreRows (problem_of inst) rows → (size : ℕ) → AreSettledBelow (problem_of inst) rows size → AreSettling (problem_of inst) rows rows (λ k. size_at rows k < size)
+settling inst rows known size below =
+    let start = sound-settling inst (length rows) rows known.sound in
+    record { groups = start.groups; many = start.many; each = start.each; done = below }
+
+none-some : (n : ℕ) → None ≡ Some n → ⊥
+none-some n e = let bad : ⊥ = cc in bad
+
+module _ (inst : Instance) (v : Numbered) (rows : List Row) (kept : List Kept) (counts : List Count) (known : AreKnown (problem_of inst) v rows kept counts) (place : ℕ) (lt : place < length rows)
+    (below : AreSettledBelow (problem_of inst) rows (size_at rows place)) where
+  as-settling : AreSettling (problem_of inst) rows rows (λ k. size_at rows k < size_at rows place)
+  as-settling = settling inst rows known.rows_are (size_at rows place) below
+
+  -- what a part counts for a low is no more than what it counts for an up
+  low-le-up : (part : List ℕ) (u : ℕ) → length part < size_at rows place → IsWithin (problem_of inst) part → known_up (problem_of inst) (rows_from rows) part ≡ Some u → known_low (problem_of inst) (rows_from rows) part ≤ u
+  low-le-up part u small within is =
+      let p = problem_of inst in
+      let e = known_low-settled inst rows rows (λ k. size_at rows k < size_at rows place) as-settling (size_at rows place) (λ j there less. less) part small in
+      let a = low-le-least p (groups_in rows) part (weighed inst) inst.valid.told within in
+      let b = least-le-val p (groups_in rows) part u inst.valid.told within (sym (known_up-settled inst rows rows (λ k. size_at rows k < size_at rows place) as-settling (size_at rows place) (λ j there less. less) part small) ∙ is) in
+      omega arith
+
+  -- and so with a test that gives both
+  sum-le-value : (t n : ℕ) → IsIn t (splitting (problem_of inst) (members (group_at rows place))) → step_value (problem_of inst) (known_up (problem_of inst) (rows_from rows)) (members (group_at rows place)) t ≡ Some n
+      → step_sum (problem_of inst) (known_low (problem_of inst) (rows_from rows)) (members (group_at rows place)) t ≤ n
+  sum-le-value t n it is =
+      let p = problem_of inst in
+      let g = members (group_at rows place) in
+      let within = row-within p rows known.rows_are place lt in
+      let e = splitting-splits p g t it in
+      let parts = sum_with-parts (p.cost t * weight_of p g) (known_up p (rows_from rows) (pass_part p t g)) (known_up p (rows_from rows) (fail_part p t g)) n is in
+      let a = low-le-up (pass_part p t g) parts.left (pass_part_smaller p t g e) (part-within p (p.passes t) g within) parts.left_is in
+      let b = low-le-up (fail_part p t g) parts.right (fail_part_smaller p t g e) (part-within p (fails p t) g within) parts.right_is in
+      let s = parts.sum in
+      omega arith
+
+  -- a test that gives a value is evaluated, or gives more than the row's up
+  capped-at : (k : Kept) → slice_get kept place ≡ Some k → NoneIsValued (problem_of inst) rows kept place → (t n : ℕ) → IsIn t (splitting (problem_of inst) (members (group_at rows place)))
+      → step_value (problem_of inst) (known_up (problem_of inst) (rows_from rows)) (members (group_at rows place)) t ≡ Some n → min (row_at rows place).up (evaluated_up (problem_of inst) rows kept place) ≤ n
+  capped-at k at none t n it is =
+      let p = problem_of inst in
+      let g = members (group_at rows place) in
+      let f = step_value p (known_up p (rows_from rows)) g in
+      let of = known.kept_are.each place k at in
+      elim (of.tests.covers t it) [
+        | inl l ↦
+            (let here = subst (λ l. IsIn t (map (λ (s : Split). s.test) l)) (sym (ap splits_in at)) l in
+            let least = least_of-values-le (greedy_cost p g) f t n (map (λ (s : Split). s.test) (splits_at kept place)) here is in
+            omega arith)
+        | inr (inl b) ↦ absurd (none-some n (sym (all-waits (λ (w : Waiting). f w.test ≡ None) b.entry (waiting_at kept place) none (subst (λ l. Waits b.entry l) (sym (ap waiting_in at)) b.waits)) ∙ ap f b.test_is ∙ is))
+        | inr (inr above) ↦ (let a = sum-le-value t n it is in omega arith)
+      ]
+
+  capped-most : NoneIsValued (problem_of inst) rows kept place → (n : ℕ) → IsLeastValue (greedy_cost (problem_of inst) (members (group_at rows place))) (step_value (problem_of inst) (known_up (problem_of inst) (rows_from rows)) (members (group_at rows place))) (splitting (problem_of inst) (members (group_at rows place))) n
+      → min (row_at rows place).up (evaluated_up (problem_of inst) rows kept place) ≤ n
+  capped-most none n (is_first e) =
+      let p = problem_of inst in
+      let g = members (group_at rows place) in
+      let first = least_of-first (greedy_cost p g) (filter_map (step_value p (known_up p (rows_from rows)) g) (map (λ (s : Split). s.test) (splits_at kept place))) in
+      omega arith
+  capped-most none n (is_at t i e) = let long = known.kept_are.as_many in let k = kept-there kept place (omega arith) in capped-at k.0 k.1 none t n i e
+
+  evaluated-least : least_up (problem_of inst) (rows_from rows) (members (group_at rows place)) ≤ evaluated_up (problem_of inst) rows kept place
+  evaluated-least =
+      let p = problem_of inst in
+      let g = members (group_at rows place) in
+      let f = step_value p (known_up p (rows_from rows)) g in
+      let long = known.kept_are.as_many in
+      let k = kept-there kept place (omega arith) in
+      let of = known.kept_are.each place k.0 k.1 in
+      let first = least_of-first (greedy_cost p g) (filter_map f (splitting p g)) in
+      values-at_least (least_up p (rows_from rows) g) (greedy_cost p g) f (map (λ (s : Split). s.test) (splits_at kept place)) first (λ t n i e.
+      let h = test-listed (λ (s : Split). IsIn s.test (splitting p g)) (k.0).splits.items t of.tests.splits_are (subst (λ l. IsIn t (map (λ (s : Split). s.test) l)) (ap splits_in k.1) i) in
+      least_of-values-le (greedy_cost p g) f t n (splitting p g) (subst (λ m. IsIn m (splitting p g)) h.test_is h.holds) e)
+
+  pub tightened-settled : NoneIsValued (problem_of inst) rows kept place → tightened_row (problem_of inst) rows kept place ≡ settled_row (problem_of inst) (groups_in rows) (row_at rows place)
+  tightened-settled none =
+      let p = problem_of inst in
+      let g = members (group_at rows place) in
+      let least = least_up p (rows_from rows) g in
+      let low_is = raised-settled inst rows rows (λ k. size_at rows k < size_at rows place) as-settling place lt (λ j there less. less) in
+      let up = capped-settled inst rows rows (λ k. size_at rows k < size_at rows place) as-settling place lt (λ j there less. less) in
+      let value = ap value_or (least_up-settled inst rows rows (λ k. size_at rows k < size_at rows place) as-settling place lt (λ j there less. less)) in
+      let no_less = evaluated-least in
+      let no_more = capped-most none least (least_value (greedy_cost p g) (step_value p (known_up p (rows_from rows)) g) (splitting p g)) in
+      let up_is : min (row_at rows place).up (evaluated_up p rows kept place) ≡ value_or (val p (groups_in rows) g) = omega arith in
+      ap (λ n. record { group = group_at rows place; low = n; up = min (row_at rows place).up (evaluated_up p rows kept place) }) low_is
+      ∙ ap (λ n. record { group = group_at rows place; low = low p (groups_in rows) g; up = n }) up_is
+
+-- ---- one row after another ----
+
+group-set : (rows : List Row) (k j : ℕ) (x : Row) → x.group ≡ group_at rows k → group_at (set rows k x) j ≡ group_at rows j
+group-set [] k j x e = refl
+group-set (r ∷ rest) zero zero x e = e
+group-set (r ∷ rest) zero (suc j) x e = refl
+group-set (r ∷ rest) (suc k) zero x e = refl
+group-set (r ∷ rest) (suc k) (suc j) x e = group-set rest k j x e
+
+module _ (inst : Instance) (rows now : List Row) (order : List ℕ) (n : ℕ) (s : AreSettling (problem_of inst) rows now (IsAmongFirst order n)) where
+  -- the rows as they are now have the groups that they had
+  same-entered : groups_in now ≡ groups_in rows
+  same-entered = same-groups now rows s.many (λ k lt. (s.each k lt).group)
+
+  settled-group : (k : ℕ) → k < length rows → settled_row (problem_of inst) (groups_in now) (row_at now k) ≡ settled_row (problem_of inst) (groups_in rows) (row_at rows k)
+  settled-group k lt =
+      ap (λ e. settled_row (problem_of inst) e (row_at now k)) same-entered
+      ∙ ap (λ (g : Group). record { group = g; low = low (problem_of inst) (groups_in rows) (members g); up = value_or (val (problem_of inst) (groups_in rows) (members g)) }) (s.each k lt).group
+
+  pub below-settled : HasOrder rows order → n < length order → AreSettledBelow (problem_of inst) now (size_at now (slice_index order n))
+  below-settled by lt j there less =
+      let many = s.many in
+      let long = counted-length (length rows) order by.each_once in
+      let k = slice_index order n in
+      let k_there = counted-below (length rows) order by.each_once n (omega arith) in
+      let a = ap (λ (g : Group). length (members g)) (s.each k k_there).group in
+      let b = ap (λ (g : Group). length (members g)) (s.each j (omega arith)).group in
+      let done = turns-below rows order n by lt j (omega arith) (omega arith) in
+      s.done j (omega arith) done ∙ sym (settled-group j (omega arith))
+
+  pub settled-turn : (new : List Row) → HasOrder rows order → n < length order → new ≡ set now (slice_index order n) (settled_row (problem_of inst) (groups_in now) (row_at now (slice_index order n)))
+      → AreSettling (problem_of inst) rows new (IsAmongFirst order (n + 1))
+  settled-turn new by lt is =
+      let p = problem_of inst in
+      let k = slice_index order n in
+      let many = s.many in
+      let long = counted-length (length rows) order by.each_once in
+      let there = counted-below (length rows) order by.each_once n (omega arith) in
+      let x = settled_row p (groups_in now) (row_at now k) in
+      subst (λ l. AreSettling p rows l (IsAmongFirst order (n + 1))) (sym is)
+      (settled-more p rows now (set now k x) (IsAmongFirst order n) (IsAmongFirst order (n + 1)) k s (length-set now k x)
+      (get_or-set_same now k x no_row (omega arith) ∙ settled-group k there)
+      (λ j ne. get_or-set_other now k j x no_row ne)
+      (turns-next order n))
+
+  pub settled-end : HasOrder rows order → n ≡ length order → now ≡ settled_rows (problem_of inst) rows
+  settled-end by e = settled-all (problem_of inst) rows now (IsAmongFirst order n) s (turns-all rows order n by e)
+
+-- before the first turn
+pub settling-none : (inst : Instance) (rows : List Row) (order : List ℕ) → AreRows (problem_of inst) rows → AreSettling (problem_of inst) rows rows (IsAmongFirst order 0)
+settling-none inst rows order known =
+    let start = sound-settling inst (length rows) rows known.sound in
+    record { groups = start.groups; many = start.many; each = start.each; done = λ k lt d. absurd (let l = d.1 in let bad : ⊥ = omega arith in bad) }

@@ -1,0 +1,236 @@
+-- What a walk does at a group is allowed: a part that it enters is real, by the law of walks; a part in which it goes on is
+-- smaller; and where both parts are closed, what they count may be both raised to and capped to.
+use Rattle.std.proofs.Common.{◌≡◌, ◌≢◌, ℕ, zero, suc, ◌<◌, ◌≤◌, max, List, [], ◌∷◌, ◌++◌, length, get_or, refl, sym, ap, ◌∙◌, arith, inl, inr, subst, Option, Some, None, length-append}
+use Rattle.std.specs.Prelude.{Bool, true, false, cond}
+use Rattle.std.proofs.lemmas.Bool.{cases_Bool}
+use Rattle.seq_theory.specs.Problem.{Problem, IsWithin, is_end, splitting, pass_part, fail_part}
+use Rattle.seq_theory.specs.Bound.{bound, step_sum}
+use Rattle.seq_theory.specs.Graph.{part, IsWanted}
+use Rattle.seq_theory.specs.Rows.{no_value, groups_of, row_of, known_low, known_up}
+use Rattle.seq_theory.proofs.GreedyLaws.{bound-le-least}
+use Rattle.seq_theory.proofs.GroupLaws.{pass_part_smaller, fail_part_smaller}
+use Rattle.seq_theory.proofs.PartsRecursion.{splitting-splits, splitting-there}
+use Rattle.seq_theory.proofs.LowLaws.{low-le-least}
+use Rattle.seq_theory.proofs.WantedLaws.{walk-wanted}
+use Rattle.seq_huff.proofs.LeastBounds.{weighed}
+use Rattle.seq_inst.specs.declared.group.Group.{Group}
+use Rattle.seq_inst.specs.declared.instance.Instance.{Instance}
+use Rattle.seq_inst.specs.declared.outcome.Row.{Row}
+use Rattle.seq_inst.specs.Members.{members}
+use Rattle.seq_inst.specs.Instances.{problem_of}
+use Rattle.seq_core.specs.RowsOf.{row_of as row_from, rows_of as rows_from}
+use Rattle.seq_graph.proofs.RowLaws.{row-none}
+use Rattle.seq_graph.specs.declared.steps.Knowledge.{Knowledge}
+use Rattle.seq_graph.specs.declared.steps.Knowledge.TheVariants.{Unknown, Open, Closed}
+use Rattle.seq_graph.specs.declared.kept.Kept.{Kept}
+use Rattle.seq_graph.specs.Numbered.{Numbered, HasNumber}
+use Rattle.seq_core.specs.Settled.{value_or}
+use Rattle.seq_graph.specs.declared.graph.Count.{Count}
+use Rattle.seq_graph.specs.Known.{AreRows, AreKnown, count_of, row_at, group_at, Narrows, IsClosedAt}
+use Rattle.seq_graph.specs.Parts.{IsUnknown, IsOpenAt, IsKnowledge}
+use Rattle.seq_graph.specs.Steps.{IsNew, IsOpenBelow, IsStep, ClosesBelow, least_test, step_by}
+use Rattle.seq_graph.specs.Walks.{HasMoved, HasTurned}
+use Rattle.seq_graph.proofs.KnownLaws.{IsLight, light-group, known_low-small, known_low-le, bound-le-known_low, row-real, row-within, row-bounds}
+use Rattle.seq_graph.proofs.PlaceLaws.{IsPlaced, place-found, place-none}
+use Rattle.seq_graph.proofs.CountLaws.{count-read, up-given}
+use Rattle.seq_graph.proofs.CountChanges.{count-row}
+use Rattle.seq_graph.proofs.ChoiceLaws.{IsFirst}
+use Rattle.seq_graph.proofs.EventLaws.{length-Narrows, group-Narrows}
+use Rattle.seq_graph.proofs.OpenLaws.{known-between, left-entered, left-narrows, left-closes}
+
+-- ---- what is known of a part, by what it counts ----
+
+module _ (inst : Instance) (v : Numbered) (rows : List Row) (kept : List Kept) (counts : List Count) (known : AreKnown (problem_of inst) v rows kept counts) where
+  counted : (g : List ℕ) (n : ℕ) (x : Count) → HasNumber v g n → x ≡ get_or counts n x → x ≡ count_of (problem_of inst) rows g
+  counted = count-read (problem_of inst) v rows kept counts known
+
+  -- without a row it counts an up only where it has one goal
+  none-up : (g : List ℕ) → row_of (rows_from rows) g ≡ None → known_up (problem_of inst) (rows_from rows) g ≡ cond (is_end (problem_of inst) g) (Some 0) None
+  none-up g none = rw none refl
+
+  none-row : (g : List ℕ) (n : ℕ) (x : Count) → HasNumber v g n → x ≡ get_or counts n x → x.place ≡ None → row_of (rows_from rows) g ≡ None
+  none-row g n x has read none = place-none rows g (sym (ap (λ (c : Count). c.place) (counted g n x has read)) ∙ none)
+
+  pub unknown-counted : (g : List ℕ) (n : ℕ) (x : Count) → HasNumber v g n → x ≡ get_or counts n x → x.place ≡ None → x.up ≡ no_value → IsUnknown (problem_of inst) rows g
+  unknown-counted g n x has read none up = record {
+    goals = elim (cases_Bool (is_end (problem_of inst) g)) [
+      | inl y ↦ absurd (
+          let e : x.up ≡ value_or (known_up (problem_of inst) (rows_from rows) g) = ap (λ (c : Count). c.up) (counted g n x has read) in
+          let z : value_or (known_up (problem_of inst) (rows_from rows) g) ≡ 0 = rw y refl in
+          let bad : ⊥ = omega arith in
+          bad
+          )
+      | inr o ↦ o
+    ];
+    absent = none-row g n x has read none;
+  }
+
+  pub end-counted : (g : List ℕ) (n : ℕ) (x : Count) → HasNumber v g n → x ≡ get_or counts n x → x.place ≡ None → x.up ≢ no_value → known_up (problem_of inst) (rows_from rows) g ≡ Some (known_low (problem_of inst) (rows_from rows) g)
+  end-counted g n x has read none up = elim (cases_Bool (is_end (problem_of inst) g)) [
+    | inl y ↦ rw y refl
+    | inr o ↦ absurd (up (ap (λ (c : Count). c.up) (counted g n x has read) ∙ ap value_or (none-up g (none-row g n x has read none) ∙ ap (λ b. cond b (Some 0) None) o)))
+  ]
+
+  placed : (g : List ℕ) (n place : ℕ) (x : Count) → HasNumber v g n → x ≡ get_or counts n x → x.place ≡ Some place → IsPlaced rows g place
+  placed g n place x has read at = place-found rows g place (sym (ap (λ (c : Count). c.place) (counted g n x has read)) ∙ at)
+
+  -- the count of a group with a row
+  row-counted : (g : List ℕ) (n place : ℕ) (x : Count) → HasNumber v g n → x ≡ get_or counts n x → x.place ≡ Some place → x ≡ record { low = max (row_at rows place).low (bound (problem_of inst) g); up = (row_at rows place).up; place = Some place }
+  row-counted g n place x has read at =
+      let f = placed g n place x has read at in
+      let goals : is_end (problem_of inst) g ≡ false = subst (λ h. is_end (problem_of inst) h ≡ false) (sym f.same) (row-real (problem_of inst) rows known.rows_are place f.in_range).goals in
+      counted g n x has read ∙ count-row (problem_of inst) rows g (row_from (row_at rows place)) (Some place) goals f.row_is (sym (ap (λ (c : Count). c.place) (counted g n x has read)) ∙ at)
+
+  -- a row whose low and up are equal has a low that is no less than the bound
+  low-above : (place : ℕ) → place < length rows → (row_at rows place).low ≡ (row_at rows place).up → bound (problem_of inst) (members (group_at rows place)) ≤ (row_at rows place).low
+  low-above place lt closed =
+      let p = problem_of inst in
+      let b = row-bounds p rows known.rows_are (weighed inst) inst.valid.told place lt in
+      let b0 = b.0 in
+      let b1 = b.1 in
+      let low = bound-le-least p (members (group_at rows place)) (weighed inst) inst.valid.told (row-within p rows known.rows_are place lt) in
+      omega arith
+
+  pub open-counted : (g : List ℕ) (n : ℕ) (x : Count) (place : ℕ) → HasNumber v g n → x ≡ get_or counts n x → x.place ≡ Some place → x.low ≢ x.up → IsOpenAt rows g place
+  open-counted g n x place has read at apart =
+      let f = placed g n place x has read at in
+      let e = row-counted g n place x has read at in
+      let low : x.low ≡ max (row_at rows place).low (bound (problem_of inst) g) = ap (λ (c : Count). c.low) e in
+      let up : x.up ≡ (row_at rows place).up = ap (λ (c : Count). c.up) e in
+      let same = ap (bound (problem_of inst)) f.same in
+      record {
+        there = f.in_range;
+        same = sym f.same;
+        apart = λ closed. apart (let above = low-above place f.in_range closed in omega arith);
+      }
+
+  pub closed-counted : (g : List ℕ) (n : ℕ) (x : Count) (place : ℕ) → HasNumber v g n → x ≡ get_or counts n x → x.place ≡ Some place → x.low ≡ x.up → known_up (problem_of inst) (rows_from rows) g ≡ Some (known_low (problem_of inst) (rows_from rows) g)
+  closed-counted g n x place has read at closed =
+      let p = problem_of inst in
+      let f = placed g n place x has read at in
+      let c = counted g n x has read in
+      let low : x.low ≡ known_low p (rows_from rows) g = ap (λ (y : Count). y.low) c in
+      let within : IsWithin p g = known.numbers_are.within g n has in
+      let light = subst (IsLight p) (sym f.same) (light-group inst (group_at rows place) (row-within p rows known.rows_are place f.in_range)) in
+      let small = known_low-small inst rows known.rows_are g light in
+      up-given p v rows kept counts known g n x has read (λ none. let bad : ⊥ = omega arith in bad) ∙ ap (λ m. Some m) (sym closed ∙ low)
+
+module _ (inst : Instance) (rows : List Row) (known : AreRows (problem_of inst) rows) where
+  -- ---- what the walk does ----
+
+  new-part : (place t : ℕ) (passed : Bool) (g : Group) → place < length rows
+      → IsFirst (step_sum (problem_of inst) (known_low (problem_of inst) (rows_from rows)) (members (group_at rows place))) (splitting (problem_of inst) (members (group_at rows place))) t
+      → members g ≡ part (problem_of inst) t passed (members (group_at rows place)) → IsUnknown (problem_of inst) rows (members g) → IsNew (problem_of inst) rows (members g)
+  new-part place t passed g lt first is unknown =
+      let p = problem_of inst in
+      let real = row-real p rows known place lt in
+      let wanted = walk-wanted p (known_low p (rows_from rows)) (members (group_at rows place)) t passed inst.valid.told real.wanted real.goals
+      (splitting-there p (members (group_at rows place)) t first.among) (splitting-splits p (members (group_at rows place)) t first.among)
+      (bound-le-known_low p rows known)
+      (λ x within. let a = known_low-le p rows known x in let b = low-le-least p (groups_of (rows_from rows)) x (weighed inst) inst.valid.told within in omega arith) first.least in
+      record {
+        real = record { wanted = subst (IsWanted p) (sym is) wanted; goals = unknown.goals };
+        absent = row-none (rows_from rows) (members g) unknown.absent;
+      }
+
+  pub new-pass : (place t : ℕ) (g : Group) → place < length rows
+      → IsFirst (step_sum (problem_of inst) (known_low (problem_of inst) (rows_from rows)) (members (group_at rows place))) (splitting (problem_of inst) (members (group_at rows place))) t
+      → members g ≡ pass_part (problem_of inst) t (members (group_at rows place)) → IsUnknown (problem_of inst) rows (members g) → IsNew (problem_of inst) rows (members g)
+  new-pass place t g = new-part place t true g
+
+  pub new-fail : (place t : ℕ) (g : Group) → place < length rows
+      → IsFirst (step_sum (problem_of inst) (known_low (problem_of inst) (rows_from rows)) (members (group_at rows place))) (splitting (problem_of inst) (members (group_at rows place))) t
+      → members g ≡ fail_part (problem_of inst) t (members (group_at rows place)) → IsUnknown (problem_of inst) rows (members g) → IsNew (problem_of inst) rows (members g)
+  new-fail place t g = new-part place t false g
+
+  pub below-pass : (f : ℕ → ℕ) (place t next : ℕ) (g : Group) → IsFirst f (splitting (problem_of inst) (members (group_at rows place))) t → members g ≡ pass_part (problem_of inst) t (members (group_at rows place)) → IsOpenAt rows (members g) next → IsOpenBelow rows (members (group_at rows place)) next
+  below-pass f place t next g first is at = record {
+    there = at.there;
+    smaller = (let s = pass_part_smaller (problem_of inst) t (members (group_at rows place)) (splitting-splits (problem_of inst) (members (group_at rows place)) t first.among) in let l = ap length (at.same ∙ is) in omega arith);
+    apart = at.apart;
+  }
+
+  pub below-fail : (f : ℕ → ℕ) (place t next : ℕ) (g : Group) → IsFirst f (splitting (problem_of inst) (members (group_at rows place))) t → members g ≡ fail_part (problem_of inst) t (members (group_at rows place)) → IsOpenAt rows (members g) next → IsOpenBelow rows (members (group_at rows place)) next
+  below-fail f place t next g first is at = record {
+    there = at.there;
+    smaller = (let s = fail_part_smaller (problem_of inst) t (members (group_at rows place)) (splitting-splits (problem_of inst) (members (group_at rows place)) t first.among) in let l = ap length (at.same ∙ is) in omega arith);
+    apart = at.apart;
+  }
+
+  closes : (place t : ℕ) (pass fail : Group) → t ≡ least_test (problem_of inst) rows (members (group_at rows place))
+      → members pass ≡ pass_part (problem_of inst) t (members (group_at rows place)) → members fail ≡ fail_part (problem_of inst) t (members (group_at rows place))
+      → IsKnowledge (problem_of inst) rows (members pass) Closed → IsKnowledge (problem_of inst) rows (members fail) Closed
+      → ClosesBelow (problem_of inst) rows (members (group_at rows place))
+  closes place t pass fail is ep ef cp cf =
+      let p = problem_of inst in
+      let g = members (group_at rows place) in
+      record {
+        passing = subst (λ n. IsKnowledge p rows (pass_part p n g) Closed) is (subst (λ x. IsKnowledge p rows x Closed) ep cp);
+        failing = subst (λ n. IsKnowledge p rows (fail_part p n g) Closed) is (subst (λ x. IsKnowledge p rows x Closed) ef cf);
+      }
+
+  -- in the words of the code
+  pub step-holds : (place t : ℕ) (pass : Group) (kp : Knowledge) (fail : Group) (kf : Knowledge) → place < length rows → t ≡ least_test (problem_of inst) rows (members (group_at rows place))
+      → IsFirst (step_sum (problem_of inst) (known_low (problem_of inst) (rows_from rows)) (members (group_at rows place))) (splitting (problem_of inst) (members (group_at rows place))) t
+      → members pass ≡ pass_part (problem_of inst) t (members (group_at rows place)) → members fail ≡ fail_part (problem_of inst) t (members (group_at rows place))
+      → IsKnowledge (problem_of inst) rows (members pass) kp → IsKnowledge (problem_of inst) rows (members fail) kf
+      → IsStep (problem_of inst) rows (members (group_at rows place)) (step_by pass kp fail kf)
+  step-holds place t pass Unknown fail kf lt is first ep ef hp hf = new-pass place t pass lt first ep hp
+  step-holds place t pass (Open q) fail Unknown lt is first ep ef hp hf = new-fail place t fail lt first ef hf
+  step-holds place t pass (Open q) fail (Open r) lt is first ep ef hp hf = below-pass _ place t q pass first ep hp
+  step-holds place t pass (Open q) fail Closed lt is first ep ef hp hf = below-pass _ place t q pass first ep hp
+  step-holds place t pass Closed fail Unknown lt is first ep ef hp hf = new-fail place t fail lt first ef hf
+  step-holds place t pass Closed fail (Open r) lt is first ep ef hp hf = below-fail _ place t r fail first ef hf
+  step-holds place t pass Closed fail Closed lt is first ep ef hp hf = closes place t pass fail is ep ef hp hf
+
+-- ---- after a turn ----
+
+group-append : (rows : List Row) (r : Row) (k : ℕ) → k < length rows → group_at (rows ++ r ∷ []) k ≡ group_at rows k
+group-append [] r k lt = absurd (let bad : ⊥ = omega arith in bad)
+group-append (s ∷ rest) r zero lt = refl
+group-append (s ∷ rest) r (suc k) lt = group-append rest r k (omega arith)
+
+pub entered-long : (old new : List Row) (r : Row) → Narrows (old ++ r ∷ []) new → length old < length new
+entered-long old new r n = let l = length-Narrows (old ++ r ∷ []) new n in let m = length-append old (r ∷ []) in omega arith
+
+module _ (inst : Instance) (limit : ℕ) (old : List Row) where
+  pub moved-enter : (r : Row) (entered new : List Row) → length old < limit → AreRows (problem_of inst) entered → Narrows (old ++ r ∷ []) entered → AreRows (problem_of inst) new → Narrows entered new → HasMoved (problem_of inst) limit old new
+  moved-enter r entered new room known1 n1 known n2 =
+      let l1 = length-Narrows (old ++ r ∷ []) entered n1 in
+      let l2 = length-Narrows entered new n2 in
+      let l0 = length-append old (r ∷ []) in
+      record {
+        rows_are = known;
+        few = omega arith;
+        keeps = λ k lt. (omega arith, group-Narrows entered new k n2 (omega arith) ∙ group-Narrows (old ++ r ∷ []) entered k n1 (omega arith) ∙ group-append old r k lt);
+        less =
+            (let a = left-entered limit old r entered room n1 (known-between inst entered known1) in
+            let b = left-narrows limit entered new n2 (known-between inst new known) in
+            omega arith);
+      }
+
+  pub moved-down : (turned new : List Row) → HasMoved (problem_of inst) limit old turned → AreRows (problem_of inst) new → Narrows turned new → HasMoved (problem_of inst) limit old new
+  moved-down turned new m known n =
+      let l = length-Narrows turned new n in
+      let few = m.few in
+      record {
+        rows_are = known;
+        few = omega arith;
+        keeps = λ k lt. let f = m.keeps k lt in let f0 = f.0 in (omega arith, group-Narrows turned new k n f.0 ∙ f.1);
+        less = (let a = m.less in let b = left-narrows limit turned new n (known-between inst new known) in omega arith);
+      }
+
+  pub moved-close : (new : List Row) (place : ℕ) → length old ≤ limit → place < length old → (row_at old place).low ≢ (row_at old place).up → AreRows (problem_of inst) new → Narrows old new → IsClosedAt new place → HasMoved (problem_of inst) limit old new
+  moved-close new place few lt apart known n closed =
+      let l = length-Narrows old new n in
+      record {
+        rows_are = known;
+        few = omega arith;
+        keeps = λ k lt. (omega arith, group-Narrows old new k n lt);
+        less = left-closes limit old new place n (known-between inst new known) lt apart closed;
+      }
+
+-- a turn that stopped at no group has moved
+pub turned-none : (p : Problem) (limit : ℕ) (old new : List Row) (o : Option Group) → ((g : Group) → o ≡ Some g → ⊥) → HasTurned p limit old new o → HasMoved p limit old new
+turned-none p limit old new None h t = t
+turned-none p limit old new (Some g) h t = absurd (h g refl)

@@ -1,0 +1,35 @@
+use Rattle.std.proofs.Common.{◌≡◌, ◌<◌, ◌∙◌, arith}
+use Rattle.std.proofs.lemmas.List.{get_or_read}
+use Rattle.seq_inst.specs.Members.{members}
+use Rattle.seq_inst.specs.Instances.{problem_of}
+use Rattle.seq_inst.proofs.WithinLaws.{within-pass, within-fail}
+use Rattle.seq_graph.proofs.GreedyChoiceLaws.{sum-fits}
+use Rattle.seq_graph.proofs.numbers.Numbers.bound_sum.Goals as goal
+
+pub bound_within-pass-requires-clause-within : goal.bound_within-pass-requires-clause-within
+bound_within-pass-requires-clause-within c = within-pass (problem_of c.args.inst.now) (members c.args.group.now) (members c.part-pass_part.result) c.args.test c.requires.within c.part-pass_part.ensures.classes
+
+pub bound_within-fail-requires-clause-within : goal.bound_within-fail-requires-clause-within
+bound_within-fail-requires-clause-within c = within-fail (problem_of c.args.inst.now) (members c.args.group.now) (members c.part-fail_part.result) c.args.test c.requires.within c.part-fail_part.ensures.classes
+
+pub overflow_mul-result : goal.overflow_mul-result
+overflow_mul-result c =
+    let p = problem_of c.args.inst.now in
+    let n = c.args.inst.now.costs.ok.0 in
+    let t = c.requires.there in
+    let there : c.args.test < p.tests = omega arith in
+    let cost : c.from.result ≡ p.cost c.args.test = c.from.ensures ∙ get_or_read c.args.inst.now.costs.items c.args.test c.index.result.now there c.index.ensures 0 in
+    let f = sum-fits c.args.inst.now c.args.group.now c.from.result c.args.weight c.args.test c.requires.within there cost c.requires.weight in
+    omega arith
+
+pub overflow_add-result-2 : goal.overflow_add-result-2
+overflow_add-result-2 c =
+    let p = problem_of c.args.inst.now in
+    let n = c.args.inst.now.costs.ok.0 in
+    let t = c.requires.there in
+    let there : c.args.test < p.tests = omega arith in
+    let cost : c.from.result ≡ p.cost c.args.test = c.from.ensures ∙ get_or_read c.args.inst.now.costs.items c.args.test c.index.result.now there c.index.ensures 0 in
+    let f = sum-fits c.args.inst.now c.args.group.now c.from.result c.args.weight c.args.test c.requires.within there cost c.requires.weight in
+    let a = c.bound_within-pass.ensures.fits in
+    let b = c.bound_within-fail.ensures.fits in
+    omega arith

@@ -1,0 +1,106 @@
+-- What a walk knows: sound rows, what is kept of each row's group, and what each group with a number counts.
+use Rattle.std.specs.Prelude.{◌≡◌, ◌⊎◌, ℕ, ◌≤◌, max, min, All, List, [], ◌∷◌, length, map, Option, Some, None, slice_get, slice_set, slice_index_or}
+use Rattle.seq_theory.specs.Problem.{Problem, weight_of}
+use Rattle.seq_theory.specs.Bound.{bound, step_sum}
+use Rattle.seq_theory.specs.Greedy.{greedy_cost}
+use Rattle.seq_theory.specs.Rows.{no_value, known_low, known_up, IsSound}
+use Rattle.seq_huff.specs.Bounds.{greatest_cost}
+use Rattle.seq_inst.specs.declared.group.Group.{Group}
+use Rattle.seq_inst.specs.declared.outcome.Row.{Row}
+use Rattle.seq_inst.specs.Members.{members}
+use Rattle.seq_inst.specs.Valid.{no_class}
+use Rattle.seq_graph.specs.declared.kept.Kept.{Kept}
+use Rattle.seq_graph.specs.declared.kept.Split.{Split}
+use Rattle.seq_graph.specs.declared.kept.Waiting.{Waiting}
+use Rattle.seq_graph.specs.KeptOf.{AreTestsOf}
+use Rattle.seq_graph.specs.Numbered.{Numbered, HasNumber, AreNumbers}
+use Rattle.seq_core.specs.RowsOf.{rows_of as rows_from, place_in}
+use Rattle.seq_core.specs.Settled.{value_or}
+use Rattle.seq_graph.specs.declared.graph.Count.{Count}
+use Rattle.seq_graph.specs.declared.graph.Graph.{Graph}
+use Rattle.seq_graph.specs.Counts.{count_at}
+
+-- no upper bound is known, or it is one of a size that sums of three fit a word
+abbrev pub HasSmallUp : Row → Type 0
+HasSmallUp r = (r.up ≡ no_value) ⊎ (r.up ≤ greatest_cost)
+
+-- the rows are sound, and their ups are small
+pub record AreRows (p : Problem) (rows : List Row) : Type 0 where
+  pub sound : IsSound p (length rows) (rows_from rows)
+  pub small : All HasSmallUp rows
+
+abbrev pub no_row : Row
+no_row = record { group = no_class; low = 0; up = 0 }
+
+abbrev pub row_at : List Row → ℕ → Row
+row_at rows place = slice_index_or rows place no_row
+
+-- the group of a place
+abbrev pub group_at : List Row → ℕ → Group
+group_at rows place = (row_at rows place).group
+
+-- what is kept of a row's group. Of the tests that split it each is evaluated, or waits with a number that is at most its sum, or
+-- is left out since its sum is above the row's up: lows rise and ups fall, so such a test is never again the one of least sum,
+-- and gives no lower up
+pub record IsKeptBy (p : Problem) (v : Numbered) (rows : List Row) (r : Row) (k : Kept) : Type 0 where
+  pub number : HasNumber v (members r.group) k.number
+  pub weight : k.weight ≡ weight_of p (members r.group)
+  pub bound_is : k.bound ≡ bound p (members r.group)
+  pub greedy : k.greedy ≡ greedy_cost p (members r.group)
+  pub tests : AreTestsOf p v (members r.group) (step_sum p (known_low p (rows_from rows)) (members r.group)) r.up k.splits.items k.waiting.items
+
+-- the evaluated tests of the group of a place, and those that wait
+abbrev pub splits_in : Option Kept → List Split
+splits_in None = []
+splits_in (Some k) = k.splits.items
+
+abbrev pub splits_at : List Kept → ℕ → List Split
+splits_at kept place = splits_in (slice_get kept place)
+
+abbrev pub waiting_in : Option Kept → List Waiting
+waiting_in None = []
+waiting_in (Some k) = k.waiting.items
+
+abbrev pub waiting_at : List Kept → ℕ → List Waiting
+waiting_at kept place = waiting_in (slice_get kept place)
+
+-- what is kept is that of the rows, one by one
+pub record AreKept (p : Problem) (v : Numbered) (rows : List Row) (kept : List Kept) : Type 0 where
+  pub as_many : length kept ≡ length rows
+  pub each : (place : ℕ) (k : Kept) → slice_get kept place ≡ Some k → IsKeptBy p v rows (row_at rows place) k
+
+-- what a group counts for a low and for an up, and the place of its row
+abbrev pub count_of : Problem → List Row → List ℕ → Count
+count_of p rows group = record { low = known_low p (rows_from rows) group; up = value_or (known_up p (rows_from rows) group); place = place_in (rows_from rows) group }
+
+-- the rows are sound, the numbers and what is kept are right, and beside each number stands what its group counts
+pub record AreKnown (p : Problem) (v : Numbered) (rows : List Row) (kept : List Kept) (counts : List Count) : Type 0 where
+  pub rows_are : AreRows p rows
+  pub numbers_are : AreNumbers p v
+  pub kept_are : AreKept p v rows kept
+  pub counts_are : counts ≡ map (count_of p rows) v.groups
+
+abbrev pub IsKnown : Problem → Graph → Type 0
+IsKnown p s = AreKnown p s.numbers s.rows.items s.kept.items s.counts.items
+
+-- the rows with one row's low raised, or its up lowered
+abbrev pub raised_at : List Row → ℕ → ℕ → List Row
+raised_at rows place to = slice_set rows place (record (row_at rows place) { low = max (row_at rows place).low to })
+
+abbrev pub capped_at : List Row → ℕ → ℕ → List Row
+capped_at rows place to = slice_set rows place (record (row_at rows place) { up = min (row_at rows place).up to })
+
+-- the counts with that of one number raised and capped
+abbrev pub narrowed_at : List Count → ℕ → ℕ → ℕ → List Count
+narrowed_at counts number low up = slice_set counts number (record (count_at counts number) { low = max (count_at counts number).low low; up = min (count_at counts number).up up })
+
+-- each row has its group still, with a low and an up that are no farther apart
+abbrev pub Narrows : List Row → List Row → Type 0
+Narrows [] [] = Unit {0}
+Narrows [] (s ∷ ss) = ⊥
+Narrows (r ∷ rs) [] = ⊥
+Narrows (r ∷ rs) (s ∷ ss) = (s.group ≡ r.group) × (r.low ≤ s.low) × (s.up ≤ r.up) × Narrows rs ss
+
+-- the least cost of the group at this place is known
+abbrev pub IsClosedAt : List Row → ℕ → Type 0
+IsClosedAt rows place = (row_at rows place).low ≡ (row_at rows place).up

@@ -1,0 +1,13 @@
+pub mod Numbered
+pub mod GreedyChoice
+pub mod KeptOf
+pub mod Counts
+pub mod Sums
+pub mod Known
+pub mod Listed
+pub mod Looks
+pub mod Settling
+pub mod Choice
+pub mod Parts
+pub mod Steps
+pub mod Walks

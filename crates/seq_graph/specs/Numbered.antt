@@ -1,0 +1,50 @@
+-- Groups by number, with what was worked out of each.
+use Rattle.std.specs.Prelude.{◌≡◌, ℕ, ◌+◌, List, length, map, Option, Some, slice_get}
+use Rattle.seq_theory.specs.Problem.{Problem, IsWithin}
+use Rattle.seq_theory.specs.Bound.{bound}
+use Rattle.seq_theory.specs.Greedy.{greedy_test, greedy_cost}
+use Rattle.seq_theory.specs.Rows.{AreDistinct}
+use Rattle.seq_huff.specs.declared.order.Order.{Order}
+use Rattle.seq_huff.specs.Orders.{IsOrderOf}
+use Rattle.seq_graph.specs.declared.greedy.Greedy.{Greedy}
+
+-- the order by which bounds are worked out; the groups, as lists of classes, by number; their bounds; greedy's test and cost
+-- over each, where these were worked out; and for how many more groups there is room
+pub record Numbered : Type 0 where
+  pub order : Order
+  pub groups : List (List ℕ)
+  pub bounds : List ℕ
+  pub greedy : List (Option Greedy)
+  pub room : ℕ
+
+-- how many groups can have numbers without more room
+abbrev pub capacity : Numbered → ℕ
+capacity v = length v.groups + v.room
+
+-- the group has this number
+abbrev pub HasNumber : Numbered → List ℕ → ℕ → Type 0
+HasNumber v group n = slice_get v.groups n ≡ Some group
+
+-- this is kept of greedy at a number of the group
+pub record HasGreedy (v : Numbered) (group : List ℕ) (g : Greedy) : Type 0 where
+  pub number : ℕ
+  pub has : HasNumber v group number
+  pub kept : slice_get v.greedy number ≡ Some (Some g)
+
+-- greedy's test of the group, and what greedy costs over it
+pub record IsGreedyOf (p : Problem) (group : List ℕ) (g : Greedy) : Type 0 where
+  pub test : g.test ≡ greedy_test p group
+  pub cost : g.cost ≡ greedy_cost p group
+
+-- the order is the problem's, no group has two numbers, and what is kept of each is what working it out afresh gives
+pub record AreNumbers (p : Problem) (v : Numbered) : Type 0 where
+  pub order : IsOrderOf p v.order
+  pub distinct : AreDistinct v.groups
+  pub within : (group : List ℕ) (n : ℕ) → HasNumber v group n → IsWithin p group
+  pub bounds : v.bounds ≡ map (bound p) v.groups
+  pub as_many : length v.greedy ≡ length v.groups
+  pub greedy : (group : List ℕ) (g : Greedy) → HasGreedy v group g → IsGreedyOf p group g
+
+-- each group that had a number has it still
+abbrev pub KeepsNumbers : Numbered → Numbered → Type 0
+KeepsNumbers old new = (group : List ℕ) (n : ℕ) → HasNumber old group n → HasNumber new group n

@@ -1,0 +1,41 @@
+//! What groups count that were met for the first time: none of them has a row.
+ghost use Rattle.std.specs.Prelude.{◌≡◌, ◌<◌, ◌≤◌, List, ℕ, length, map, ◌++◌, drop, IfOk};
+ghost use Rattle.seq_inst.specs.Instances.{problem_of};
+ghost use Rattle.seq_graph.specs.Numbered.{AreNumbers, HasNumber};
+ghost use Rattle.seq_graph.specs.Counts.{new_count};
+
+use crate::graph::Count;
+use crate::numbers::Numbers;
+use seq_inst::{Instance, is_leaf};
+use std::alloc::AllocError;
+
+/// What the group of a number counts that has no row.
+fn count_without_row(inst: &Instance, numbers: &Numbers, number: u32) -> Count
+    requires numbers { AreNumbers (problem_of inst.now) numbers.now }
+    requires there { number < length numbers.now.groups }
+    ensures { (group : List ℕ) → HasNumber numbers.now group number → result ≡ new_count (problem_of inst.now) group }
+{
+    let one_goal = is_leaf(inst, &numbers.group_at(number));
+    Count {
+        low: numbers.bound_at(number),
+        up: if one_goal { 0 } else { u64::MAX },
+        place: None,
+    }
+}
+
+/// Counts for the groups that have a number, but no count yet.
+pub(crate) fn count_new(
+    inst: &Instance,
+    numbers: &Numbers,
+    counts: &mut Vec<Count>,
+) -> Result<(), AllocError>
+    requires numbers { AreNumbers (problem_of inst.now) numbers.now }
+    requires fewer { length counts.old.items ≤ length numbers.now.groups }
+    ensures { IfOk result (λ _. counts.new.items ≡ counts.old.items ++ map (new_count (problem_of inst.now)) (drop (length counts.old.items) numbers.now.groups)) }
+{
+    let many = numbers.len();
+    for number in counts.len() as u32..many {
+        counts.push(count_without_row(inst, numbers, number))?;
+    }
+    Ok(())
+}

@@ -1,0 +1,184 @@
+//! The events of a search: a group is entered, raised to what its parts' lows give, and capped by what
+//! their ups give. Each keeps the rows sound, and beside each number what its group counts.
+ghost use Rattle.std.specs.Prelude.{◌≡◌, ◌^◌, ◌<◌, Contains, false, length, slice_set, IfOk, [], ◌∷◌, ◌++◌};
+ghost use Rattle.seq_theory.specs.Bound.{step_sum};
+ghost use Rattle.seq_theory.specs.Graph.{is_entered, IsReal};
+ghost use Rattle.seq_theory.specs.Greedy.{greedy_cost};
+ghost use Rattle.seq_theory.specs.Rows.{groups_of, known_low, no_value};
+ghost use Rattle.seq_inst.specs.Members.{members};
+ghost use Rattle.seq_inst.specs.Instances.{problem_of};
+ghost use Rattle.seq_core.specs.RowsOf.{rows_of as rows_from};
+ghost use Rattle.seq_graph.specs.Known.{IsKnown, Narrows, group_at, splits_at, IsClosedAt, raised_at, capped_at, narrowed_at};
+ghost use Rattle.seq_graph.specs.Settling.{tightened_row};
+ghost use Rattle.seq_graph.specs.Steps.{least_test as least_test_of, ClosesBelow};
+
+use crate::choice::{Chosen, least_test, least_up};
+use crate::counts::count_new;
+use crate::graph::{Count, Graph};
+use crate::kept::Kept;
+use crate::look::{look, look_at_all};
+use crate::sums::{leave_out, leave_out_waiting};
+use seq_huff::Scratch;
+use seq_inst::{Group, Instance, Row};
+use std::alloc::{AllocError, Global};
+
+/// The room that is made before greedy is asked, for the groups that its tree meets.
+const ROOM_FOR_GREEDY: u32 = 4096;
+
+/// Raises a row's low, if it is less.
+fn raise(rows: &mut Vec<Row>, place: usize, to: u64)
+    requires { place < length rows.old.items }
+    ensures { rows.new.items ≡ raised_at rows.old.items place to }
+{
+    let row = &mut rows[place];
+    row.low = row.low.max(to);
+}
+
+/// Lowers a row's up, if it is greater.
+fn cap(rows: &mut Vec<Row>, place: usize, to: u64)
+    requires { place < length rows.old.items }
+    ensures { rows.new.items ≡ capped_at rows.old.items place to }
+{
+    let row = &mut rows[place];
+    row.up = row.up.min(to);
+}
+
+/// Raises and caps what the group of a number counts.
+fn narrow(counts: &mut Vec<Count>, number: usize, low: u64, up: u64)
+    requires { number < length counts.old.items }
+    ensures { counts.new.items ≡ narrowed_at counts.old.items number low up }
+{
+    let count = &mut counts[number];
+    count.low = count.low.max(low);
+    count.up = count.up.min(up);
+}
+
+/// Raises a group to the least sum of its tests, and caps it by those that are evaluated.
+pub(crate) fn tighten(inst: &Instance, graph: &mut Graph, place: usize, chosen: Chosen)
+    requires known { IsKnown (problem_of inst.now) graph.old }
+    requires place { place < length graph.old.rows.items }
+    requires test { chosen.split.test ≡ least_test_of (problem_of inst.now) graph.old.rows.items (members (group_at graph.old.rows.items place)) }
+    requires sum { chosen.sum ≡ step_sum (problem_of inst.now) (known_low (problem_of inst.now) (rows_from graph.old.rows.items)) (members (group_at graph.old.rows.items place)) chosen.split.test }
+    requires evaluated { Contains (splits_at graph.old.kept.items place) chosen.split }
+    ensures known { IsKnown (problem_of inst.now) graph.new }
+    ensures rows { graph.new.rows.items ≡ slice_set graph.old.rows.items place (tightened_row (problem_of inst.now) graph.old.rows.items graph.old.kept.items place) }
+    ensures narrows { Narrows graph.old.rows.items graph.new.rows.items }
+    ensures closes { ClosesBelow (problem_of inst.now) graph.old.rows.items (members (group_at graph.old.rows.items place)) → IsClosedAt graph.new.rows.items place }
+{
+    let low = graph.kept[place].bound.max(chosen.sum);
+    let up = least_up(inst, graph, place);
+    let number = graph.kept[place].number as usize;
+    raise(&mut graph.rows, place, low);
+    cap(&mut graph.rows, place, up);
+    narrow(&mut graph.counts, number, low, up);
+}
+
+/// Leaves out the tests of a group that can't be of least sum again.
+fn thin(inst: &Instance, graph: &mut Graph, place: usize)
+    requires known { IsKnown (problem_of inst.now) graph.old }
+    requires place { place < length graph.old.rows.items }
+    ensures known { IsKnown (problem_of inst.now) graph.new }
+    ensures rows { graph.new.rows.items ≡ graph.old.rows.items }
+{
+    let up = graph.rows[place].up;
+    let kept = &mut graph.kept[place];
+    let weight = kept.weight;
+    leave_out(inst, graph.counts.as_slice(), weight, up, &mut kept.splits);
+    leave_out_waiting(up, &mut kept.waiting);
+}
+
+/// Raises and caps a group by what is known of its parts, and leaves out tests that are of no more use.
+pub fn refresh(
+    scratch: &mut Scratch,
+    inst: &Instance,
+    graph: &mut Graph,
+    place: usize,
+) -> Result<(), AllocError>
+    requires known { IsKnown (problem_of inst.now) graph.old }
+    requires place { place < length graph.old.rows.items }
+    ensures known { IfOk result (λ _. IsKnown (problem_of inst.now) graph.new) }
+    ensures narrows { IfOk result (λ _. Narrows graph.old.rows.items graph.new.rows.items) }
+    ensures closes { IfOk result (λ _. ClosesBelow (problem_of inst.now) graph.old.rows.items (members (group_at graph.old.rows.items place)) → IsClosedAt graph.new.rows.items place) }
+{
+    look(scratch, inst, graph, place)?;
+    let chosen = least_test(scratch, inst, graph, place)?;
+    tighten(inst, graph, place, chosen);
+    thin(inst, graph, place);
+    Ok(())
+}
+
+/// Gives a group a row with what greedy costs for an up, and what is kept of it.
+pub(crate) fn add(
+    alloc: Global,
+    scratch: &mut Scratch,
+    inst: &Instance,
+    graph: &mut Graph,
+    group: &Group,
+) -> Result<(), AllocError>
+    requires known { IsKnown (problem_of inst.now) graph.old }
+    requires real { IsReal (problem_of inst.now) (members group.now) }
+    requires new { is_entered (groups_of (rows_from graph.old.rows.items)) (members group.now) ≡ false }
+    requires room { length graph.old.rows.items < 2 ^ 32 }
+    ensures known { IfOk result (λ _. IsKnown (problem_of inst.now) graph.new) }
+    ensures rows { IfOk result (λ _. graph.new.rows.items ≡ graph.old.rows.items ++ record { group = group.now; low = 0; up = greedy_cost (problem_of inst.now) (members group.now) } ∷ []) }
+{
+    let place = graph.rows.len();
+    graph.numbers.reserve(ROOM_FOR_GREEDY)?;
+    let kept = Kept::of(
+        scratch,
+        &mut graph.numbers,
+        inst,
+        group,
+        Vec::new(alloc),
+        Vec::new(alloc),
+    )?;
+    count_new(inst, &graph.numbers, &mut graph.counts)?;
+    let count = &mut graph.counts[kept.number as usize];
+    count.up = kept.greedy;
+    count.place = Some(place as u32);
+    graph.rows.push(Row {
+        group: *group,
+        low: 0,
+        up: kept.greedy,
+    })?;
+    graph.kept.push(kept)?;
+    graph.looks.push(place + 1)?;
+    Ok(())
+}
+
+/// Gives back the room of the tests that were left out. Most go at the first refresh, so that this pays
+/// when a group is entered, and not later.
+fn give_back(inst: &Instance, graph: &mut Graph, place: usize)
+    requires known { IsKnown (problem_of inst.now) graph.old }
+    requires place { place < length graph.old.rows.items }
+    ensures known { IsKnown (problem_of inst.now) graph.new }
+    ensures rows { graph.new.rows.items ≡ graph.old.rows.items }
+{
+    let _ = inst;
+    let kept = &mut graph.kept[place];
+    kept.splits.shrink_to_fit();
+    kept.waiting.shrink_to_fit();
+}
+
+/// Enters a group, and raises and caps it.
+pub fn enter(
+    alloc: Global,
+    scratch: &mut Scratch,
+    inst: &Instance,
+    graph: &mut Graph,
+    group: &Group,
+) -> Result<(), AllocError>
+    requires known { IsKnown (problem_of inst.now) graph.old }
+    requires real { IsReal (problem_of inst.now) (members group.now) }
+    requires new { is_entered (groups_of (rows_from graph.old.rows.items)) (members group.now) ≡ false }
+    requires room { length graph.old.rows.items < 32768 }
+    ensures known { IfOk result (λ _. IsKnown (problem_of inst.now) graph.new) }
+    ensures narrows { IfOk result (λ _. Narrows (graph.old.rows.items ++ record { group = group.now; low = 0; up = no_value } ∷ []) graph.new.rows.items) }
+{
+    let place = graph.rows.len();
+    add(alloc, scratch, inst, graph, group)?;
+    look_at_all(scratch, inst, graph, place)?;
+    refresh(scratch, inst, graph, place)?;
+    give_back(inst, graph, place);
+    Ok(())
+}

@@ -1,0 +1,313 @@
+//! Groups by number, with what was worked out of each: its bound, and greedy's test and cost over it once
+//! these were asked for. A search meets the same groups again and again by other tests, so each of these
+//! is worked out once. Numbers go upwards from 0 in the order in which groups are met, so that whatever
+//! else an engine knows of groups can stand in lists by number.
+//!
+//! `reserve` takes the memory for so many more groups. `number_within` takes none: it gives numbers while
+//! that room lasts. A group that is met later has none, and what is asked of it is worked out afresh, each
+//! time; so a lack of room costs time and changes no answer.
+ghost use Rattle.std.specs.Prelude.{◌≡◌, ◌+◌, ◌-◌, ◌++◌, ◌∷◌, [], ◌<◌, ◌≤◌, false, true, max, length, slice_get, slice_set, IsOk, IfOk, OnOk, OnErr, IfSome, IfNone, Some, None};
+ghost use Rattle.seq_theory.specs.Problem.{Problem, IsWithin, is_end};
+ghost use Rattle.seq_theory.specs.Bound.{bound as bound_by};
+ghost use Rattle.seq_theory.specs.Graph.{is_entered};
+ghost use Rattle.seq_huff.specs.Bounds.{greatest_cost};
+ghost use Rattle.seq_inst.specs.Instances.{problem_of};
+ghost use Rattle.seq_inst.specs.Members.{members};
+ghost use Rattle.seq_graph.specs.GreedyChoice.{AreEstimates};
+ghost use Rattle.seq_graph.specs.Numbered.{capacity, HasNumber, HasGreedy, IsGreedyOf, AreNumbers, KeepsNumbers};
+
+use crate::greedy::{Estimates, Greedy, estimates_of};
+use crate::words::know_words;
+use indexmap::IndexMap;
+use seq_huff::{Order, Scratch, ordered_bound};
+use seq_inst::{Group, Instance, is_leaf};
+use std::alloc::{AllocError, Global};
+use std::marker::Model;
+
+/// Groups by number.
+#[derive(Drop)]
+pub struct Numbers {
+    /// The weights and the costs in order, so that no bound sorts them.
+    order: Order,
+    /// The bound of each group by its words, in the order of numbers.
+    bounds: IndexMap<[u64; 8], u64>,
+    /// Greedy's test and cost over each group, by number.
+    greedy: Vec<Option<Greedy>>,
+    /// How many more groups both lists have room for.
+    room: u32,
+}
+
+impl Model for Numbers {
+    ghost use Rattle.std.specs.Prelude.{◌≡◌, ◌+◌, ◌^◌, ◌<◌, ◌≤◌, length, map, vec_capacity};
+    ghost use Rattle.indexmap.specs.IndexMap.{keys, values, spare};
+    ghost use Rattle.seq_core.specs.Words.{AreWords, classes_of};
+    ghost use Rattle.seq_graph.specs.Numbered.{Numbered};
+
+    ghost Value = { Numbered };
+
+    ghost view = { λ m. record { order = m.order; groups = map classes_of (keys m.bounds); bounds = values m.bounds; greedy = m.greedy.items; room = m.room } };
+
+    ghost invariant = { λ m. record {
+      words : AreWords (keys m.bounds);
+      as_many : length m.greedy.items ≡ length (keys m.bounds);
+      few : length m.greedy.items + m.room < 2 ^ 32;
+      room_for_bounds : m.room ≤ spare m.bounds;
+      room_for_greedy : length m.greedy.items + m.room ≤ vec_capacity m.greedy;
+    } };
+}
+
+impl Numbers {
+    /// No numbers yet, and no room.
+    pub fn new(alloc: Global, inst: &Instance) -> Result<Numbers, AllocError>
+        ensures numbers { IfOk result (AreNumbers (problem_of inst.now)) }
+        ensures none { IfOk result (λ v. v.groups ≡ []) }
+    {
+        let order = Order::of(alloc, inst)?;
+        Ok(Numbers {
+            order,
+            bounds: IndexMap::new(alloc),
+            greedy: Vec::new(alloc),
+            room: 0,
+        })
+    }
+
+    /// How many groups have numbers.
+    pub fn len(&self) -> u32
+        ensures { result ≡ length self.now.groups }
+    {
+        self.greedy.len() as u32
+    }
+
+    /// The group of the number.
+    pub fn group_at(&self, number: u32) -> Group
+        requires { number < length self.now.groups }
+        ensures { HasNumber self.now (members result) number }
+    {
+        match self.bounds.get_index(number as usize) {
+            Some((words, _)) => Group(*words),
+            None => unreachable!(),
+        }
+    }
+
+    /// The bound of the group of the number.
+    pub fn bound_at(&self, number: u32) -> u64
+        requires { number < length self.now.groups }
+        ensures { slice_get self.now.bounds number ≡ Some result }
+    {
+        self.bounds[number as usize]
+    }
+
+    /// What is kept of greedy at the number.
+    fn greedy_at(&self, number: u32) -> Option<Greedy>
+        requires { number < length self.now.groups }
+        ensures { slice_get self.now.greedy number ≡ Some result }
+    {
+        self.greedy[number as usize]
+    }
+
+    /// Greedy's test and cost over the group, where they are kept.
+    pub(crate) fn kept_greedy(&self, group: &Group) -> Option<Greedy>
+        ensures { IfSome result (HasGreedy self.now (members group.now)) }
+    {
+        match self.find(group) {
+            Some(number) => self.greedy_at(number),
+            None => None,
+        }
+    }
+
+    /// Writes greedy's test and cost at the number.
+    fn write_greedy(&mut self, number: u32, greedy: Greedy)
+        requires { number < length self.old.groups }
+        ensures { self.new ≡ record self.old { greedy = slice_set self.old.greedy number (Some greedy) } }
+    {
+        self.greedy[number as usize] = Some(greedy);
+    }
+
+    /// Keeps greedy's test and cost over the group, where it has a number or there is room for one.
+    pub(crate) fn keep_greedy(
+        &mut self,
+        scratch: &mut Scratch,
+        inst: &Instance,
+        group: &Group,
+        greedy: Greedy,
+    )
+        requires numbers { AreNumbers (problem_of inst.now) self.old }
+        requires within { IsWithin (problem_of inst.now) (members group.now) }
+        requires greedy { IsGreedyOf (problem_of inst.now) (members group.now) greedy }
+        ensures numbers { AreNumbers (problem_of inst.now) self.new }
+        ensures keeps { KeepsNumbers self.old self.new }
+        ensures capacity { capacity self.new ≡ capacity self.old }
+    {
+        if let Some(number) = self.number_within(scratch, inst, group) {
+            self.write_greedy(number, greedy);
+        }
+    }
+
+    /// The number of the group, if it has one.
+    pub fn find(&self, group: &Group) -> Option<u32>
+        ensures found { IfSome result (HasNumber self.now (members group.now)) }
+        ensures none { IfNone result (is_entered self.now.groups (members group.now) ≡ false) }
+    {
+        know_words(group);
+        match self.bounds.get_index_of(&group.0) {
+            Some(index) => Some(index as u32),
+            None => None,
+        }
+    }
+
+    /// Makes room for so many more groups. It takes no memory where there is as much room. Where the
+    /// memory is short, nothing has changed.
+    pub fn reserve(&mut self, more: u32) -> Result<(), AllocError>
+        ensures ok { OnOk result (self.new ≡ record self.old { room = max self.old.room more }) }
+        ensures err { OnErr result (self.new ≡ self.old) }
+        ensures succeeds { more ≤ self.old.room → IsOk result }
+        ensures numbers { (p : Problem) → AreNumbers p self.old → AreNumbers p self.new }
+        ensures keeps { KeepsNumbers self.old self.new }
+    {
+        if more <= self.room {
+            return Ok(());
+        }
+        if more > u32::MAX - self.len() {
+            return Err(AllocError);
+        }
+        self.bounds.reserve(more as usize)?;
+        self.greedy.reserve(more as usize)?;
+        self.room = more;
+        Ok(())
+    }
+
+    /// Gives the group, which has no number, the next one. There is room, so both lists take it.
+    fn add(&mut self, group: &Group, bound: u64) -> u32
+        requires absent { is_entered self.old.groups (members group.now) ≡ false }
+        requires room { 0 < self.old.room }
+        ensures number { result ≡ length self.old.groups }
+        ensures added { self.new ≡ record self.old { groups = self.old.groups ++ members group.now ∷ []; bounds = self.old.bounds ++ bound ∷ []; greedy = self.old.greedy ++ None ∷ []; room = self.old.room - 1 } }
+    {
+        know_words(group);
+        let number = self.len();
+        let _ = self.bounds.insert(group.0, bound);
+        let _ = self.greedy.push(None);
+        self.room -= 1;
+        number
+    }
+
+    /// Gives the group, which has no number, the next one, with its bound.
+    fn next_number(&mut self, scratch: &mut Scratch, inst: &Instance, group: &Group) -> u32
+        requires numbers { AreNumbers (problem_of inst.now) self.old }
+        requires within { IsWithin (problem_of inst.now) (members group.now) }
+        requires absent { is_entered self.old.groups (members group.now) ≡ false }
+        requires room { 0 < self.old.room }
+        ensures numbers { AreNumbers (problem_of inst.now) self.new }
+        ensures keeps { KeepsNumbers self.old self.new }
+        ensures number { HasNumber self.new (members group.now) result }
+        ensures capacity { capacity self.new ≡ capacity self.old }
+        ensures one { self.old.room ≤ self.new.room + 1 }
+    {
+        let bound = self.fresh_bound(scratch, inst, group);
+        self.add(group, bound)
+    }
+
+    /// The number of the group. One that has none gets the next one, with its bound. It takes memory only
+    /// where the group has no number and no room is left.
+    pub fn number_of(
+        &mut self,
+        scratch: &mut Scratch,
+        inst: &Instance,
+        group: &Group,
+    ) -> Result<u32, AllocError>
+        requires numbers { AreNumbers (problem_of inst.now) self.old }
+        requires within { IsWithin (problem_of inst.now) (members group.now) }
+        ensures numbers { AreNumbers (problem_of inst.now) self.new }
+        ensures keeps { KeepsNumbers self.old self.new }
+        ensures number { IfOk result (HasNumber self.new (members group.now)) }
+
+        // It fails only where the group has no number and no room is left.
+        ensures known { is_entered self.old.groups (members group.now) ≡ true → IsOk result }
+        ensures succeeds { 0 < self.old.room → IsOk result }
+
+        // A new number takes up the room of one.
+        ensures one { self.old.room ≤ self.new.room + 1 }
+    {
+        if let Some(number) = self.find(group) {
+            return Ok(number);
+        }
+        self.reserve(1)?;
+        Ok(self.next_number(scratch, inst, group))
+    }
+
+    /// The number of the group. One that has none gets the next one, with its bound, while there is room.
+    /// It takes no memory.
+    pub fn number_within(
+        &mut self,
+        scratch: &mut Scratch,
+        inst: &Instance,
+        group: &Group,
+    ) -> Option<u32>
+        requires numbers { AreNumbers (problem_of inst.now) self.old }
+        requires within { IsWithin (problem_of inst.now) (members group.now) }
+        ensures numbers { AreNumbers (problem_of inst.now) self.new }
+        ensures keeps { KeepsNumbers self.old self.new }
+
+        // None comes only where the group has no number and no room is left.
+        ensures number { IfSome result (HasNumber self.new (members group.now)) }
+        ensures absent { IfNone result (is_entered self.old.groups (members group.now) ≡ false) }
+        ensures full { IfNone result (self.old.room ≡ 0) }
+
+        // A new number takes up the room of one.
+        ensures capacity { capacity self.new ≡ capacity self.old }
+        ensures one { self.old.room ≤ self.new.room + 1 }
+    {
+        if let Some(number) = self.find(group) {
+            return Some(number);
+        }
+        if self.room == 0 {
+            return None;
+        }
+        Some(self.next_number(scratch, inst, group))
+    }
+
+    /// The bound of the group, worked out afresh.
+    fn fresh_bound(&self, scratch: &mut Scratch, inst: &Instance, group: &Group) -> u64
+        requires numbers { AreNumbers (problem_of inst.now) self.now }
+        requires within { IsWithin (problem_of inst.now) (members group.now) }
+        ensures value { result ≡ bound_by (problem_of inst.now) (members group.now) }
+        ensures fits { result ≤ greatest_cost }
+    {
+        ordered_bound(scratch, &self.order, inst, group)
+    }
+
+    /// The estimates of the tests that split the group, which has two goals or more.
+    pub(crate) fn estimates(&self, inst: &Instance, group: &Group) -> Estimates
+        requires numbers { AreNumbers (problem_of inst.now) self.now }
+        requires within { IsWithin (problem_of inst.now) (members group.now) }
+        requires more { is_end (problem_of inst.now) (members group.now) ≡ false }
+        ensures { AreEstimates (problem_of inst.now) (members group.now) result }
+    {
+        estimates_of(&self.order, inst, group)
+    }
+
+    /// The bound of the group. A group of two goals or more gets a number where there is room; one of
+    /// one goal needs none, as its bound is 0.
+    pub(crate) fn bound_within(
+        &mut self,
+        scratch: &mut Scratch,
+        inst: &Instance,
+        group: &Group,
+    ) -> u64
+        requires numbers { AreNumbers (problem_of inst.now) self.old }
+        requires within { IsWithin (problem_of inst.now) (members group.now) }
+        ensures numbers { AreNumbers (problem_of inst.now) self.new }
+        ensures keeps { KeepsNumbers self.old self.new }
+        ensures capacity { capacity self.new ≡ capacity self.old }
+        ensures value { result ≡ bound_by (problem_of inst.now) (members group.now) }
+        ensures fits { result ≤ greatest_cost }
+    {
+        if is_leaf(inst, group) {
+            return 0;
+        }
+        match self.number_within(scratch, inst, group) {
+            Some(number) => self.bound_at(number),
+            None => self.fresh_bound(scratch, inst, group),
+        }
+    }
+}

@@ -1,0 +1,105 @@
+//! What a walk does at a group: one step down. It goes by the test of least sum, with the passing part before
+//! the failing one: a part that is not known is entered; else the walk goes on in a part that is open; else
+//! both parts are closed, and so the group itself closes.
+ghost use Rattle.std.specs.Prelude.{◌≡◌, ◌<◌, List, ℕ, length, IfOk};
+ghost use Rattle.seq_inst.specs.Members.{members};
+ghost use Rattle.seq_inst.specs.Instances.{problem_of};
+ghost use Rattle.seq_graph.specs.Numbered.{HasNumber};
+ghost use Rattle.seq_graph.specs.Known.{IsKnown, group_at};
+ghost use Rattle.seq_graph.specs.Steps.{IsStep, step_by};
+ghost use Rattle.seq_graph.specs.Parts.{IsKnowledge};
+
+use crate::choice::least_test;
+use crate::graph::Graph;
+use seq_huff::Scratch;
+use seq_inst::{Group, Instance};
+use std::alloc::AllocError;
+
+/// What a walk does at a group.
+#[derive(Clone, Copy)]
+pub enum Step {
+    /// It enters a part.
+    Enter { group: Group },
+    /// It goes on at the part of this place.
+    Down { place: usize },
+    /// It closes the group.
+    Close,
+}
+
+/// What is known of a part.
+#[derive(Clone, Copy)]
+enum Knowledge {
+    /// It has two goals or more, and no row.
+    Unknown,
+    /// Its row has this place, and its least cost is not known yet.
+    Open { place: usize },
+    /// Its least cost is known.
+    Closed,
+}
+
+/// What is known of the part of a number. A part that has no row and an up has one goal.
+fn knowledge_of(inst: &Instance, graph: &Graph, number: u32) -> Knowledge
+    requires known { IsKnown (problem_of inst.now) graph.now }
+    requires there { number < length graph.now.numbers.groups }
+    ensures { (part : List ℕ) → HasNumber graph.now.numbers part number → IsKnowledge (problem_of inst.now) graph.now.rows.items part result }
+{
+    let _ = inst;
+    let count = graph.counts[number as usize];
+    match count.place {
+        None => {
+            if count.up == u64::MAX {
+                Knowledge::Unknown
+            } else {
+                Knowledge::Closed
+            }
+        }
+        Some(place) => {
+            if count.low == count.up {
+                Knowledge::Closed
+            } else {
+                Knowledge::Open {
+                    place: place as usize,
+                }
+            }
+        }
+    }
+}
+
+/// What the walk does at a group, by what is known of both parts.
+fn step_of(pass: Group, pass_known: Knowledge, fail: Group, fail_known: Knowledge) -> Step
+    ensures { result ≡ step_by pass pass_known fail fail_known }
+{
+    match pass_known {
+        Knowledge::Unknown => Step::Enter { group: pass },
+        Knowledge::Open { place } => match fail_known {
+            Knowledge::Unknown => Step::Enter { group: fail },
+            _ => Step::Down { place },
+        },
+        Knowledge::Closed => match fail_known {
+            Knowledge::Unknown => Step::Enter { group: fail },
+            Knowledge::Open { place } => Step::Down { place },
+            Knowledge::Closed => Step::Close,
+        },
+    }
+}
+
+/// What the walk does at a group, by its test of least sum.
+pub fn next_step(
+    scratch: &mut Scratch,
+    inst: &Instance,
+    graph: &mut Graph,
+    place: usize,
+) -> Result<Step, AllocError>
+    requires known { IsKnown (problem_of inst.now) graph.old }
+    requires place { place < length graph.old.rows.items }
+    ensures known { IfOk result (λ _. IsKnown (problem_of inst.now) graph.new) }
+    ensures rows { IfOk result (λ _. graph.new.rows.items ≡ graph.old.rows.items) }
+    ensures step { IfOk result (IsStep (problem_of inst.now) graph.old.rows.items (members (group_at graph.old.rows.items place))) }
+{
+    let split = least_test(scratch, inst, graph, place)?.split;
+    let pass_part = graph.numbers.group_at(split.pass);
+    let fail_part = graph.numbers.group_at(split.fail);
+    let pass_known = knowledge_of(inst, graph, split.pass);
+    let fail_known = knowledge_of(inst, graph, split.fail);
+    Ok(step_of(pass_part, pass_known, fail_part, fail_known))
+}

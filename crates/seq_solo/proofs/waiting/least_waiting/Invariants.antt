@@ -1,5 +1,0 @@
-use Rattle.seq_solo.proofs.WaitingLaws.{LeastSoFar}
-use Rattle.seq_solo.proofs.waiting.least_waiting.Given as goal
-
-abbrev pub invariant-loop-at : goal.invariant-loop-at
-invariant-loop-at l = LeastSoFar l.waiting l.at l.least
