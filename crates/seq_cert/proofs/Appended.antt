@@ -2,21 +2,26 @@
 -- next, it has written those of one item more.
 use Rattle.std.proofs.Common.{◌≡◌, ℕ, suc, ◌+◌, ◌<◌, zero, List, [], ◌∷◌, ◌++◌, length, map, take, get_or, refl, sym, ap, ◌∙◌, arith, append-nil, append_assoc}
 use Rattle.std.proofs.lemmas.List.{map-append, take_more, take_all, length-map, length-take-le}
+use Rattle.std.proofs.lemmas.List.Sums.{fold-append}
 use Rattle.std.specs.Prelude.{filter}
 use Rattle.seq_theory.specs.Problem.{Problem, count_up}
 use Rattle.seq_theory.proofs.StatesLaws.{count_up-last}
-use Rattle.sig_lines.specs.Written.{Written, with_lines}
+use Rattle.sig_lines.specs.Written.{Written, with_line, with_lines}
 use Rattle.sig_lines.specs.declared.labels.StateLabel.{StateLabel}
 use Rattle.sig_lines.specs.declared.labels.TestLabel.{TestLabel}
-use Rattle.sig_lines.proofs.WrittenLines.{lines_after}
 use Rattle.seq_cert.specs.declared.report.ClassLine.{ClassLine}
-use Rattle.seq_cert.specs.Text.{Words, class_words, state_words, test_words, class_lines, test_lines}
+use Rattle.sig_lines.specs.Pieces.{Words, test_words}
+use Rattle.seq_cert.specs.Text.{class_words, state_words, class_lines, test_lines}
 use Rattle.seq_cert.specs.OutcomeReport.{is_of, state_line, class_line}
 use Rattle.seq_cert.specs.ByClass.{no_state, Picks}
 
+-- what two writers append, one after the other
+pub lines_after : (w a b : Written) (xs ys : List Words) → a ≡ with_lines w xs → b ≡ with_lines a ys → b ≡ with_lines w (xs ++ ys)
+lines_after w a b xs ys first second = second ∙ ap (λ v. with_lines v ys) first ∙ sym (fold-append with_line w xs ys)
+
 -- a line for each item
 pub lines_more : {X : Type 0} (w a b : Written) (f : X → Words) (xs : List X) (i : ℕ) (d : X) → i < length xs
-    → a ≡ with_lines w (map f (take i xs)) → b ≡ with_lines a (f (get_or xs i d) ∷ []) → b ≡ with_lines w (map f (take (i + 1) xs))
+    → a ≡ with_lines w (map f (take i xs)) → b ≡ with_line a (f (get_or xs i d)) → b ≡ with_lines w (map f (take (i + 1) xs))
 lines_more w a b f xs i d lt before last =
     lines_after w a b (map f (take i xs)) (f (get_or xs i d) ∷ []) before last
     ∙ ap (with_lines w) (sym (ap (map f) (take_more xs i d lt) ∙ map-append f (take i xs) (get_or xs i d ∷ [])))
@@ -29,7 +34,7 @@ test_lines-last j (s ∷ ts) t =
 
 -- a test line for each test
 pub tests_more : (w a b : Written) (ts : List TestLabel) (i : ℕ) (d : TestLabel) → i < length ts
-    → a ≡ with_lines w (test_lines 0 (take i ts)) → b ≡ with_lines a (test_words i (get_or ts i d) ∷ []) → b ≡ with_lines w (test_lines 0 (take (i + 1) ts))
+    → a ≡ with_lines w (test_lines 0 (take i ts)) → b ≡ with_line a (test_words i (get_or ts i d)) → b ≡ with_lines w (test_lines 0 (take (i + 1) ts))
 tests_more w a b ts i d lt before last =
     let long : 0 + length (take i ts) ≡ i = omega (arith, length-take-le i ts (omega arith)) in
     lines_after w a b (test_lines 0 (take i ts)) (test_words i (get_or ts i d) ∷ []) before last

@@ -4,7 +4,7 @@ use Rattle.std.specs.Prelude.{Bool, true, false, cond, nat_eq, codes}
 use Rattle.std.specs.List.{AllByRecursion}
 use Rattle.std.proofs.lemmas.Bool.{cases_Bool, eqb-true, and_parts}
 use Rattle.std.proofs.lemmas.List.{map-append, nil_from_length}
-use Rattle.sig_lines.specs.Pieces.{words_in, spaced, ended, lines_in, tail_in}
+use Rattle.sig_lines.specs.Pieces.{words_in, spaced, ended, lines_in, tail_in, test_words}
 use Rattle.sig_lines.specs.Reading.{Cursor, cursor, Reading, ◌>>=◌, line_at, ◌then◌, pair}
 use Rattle.sig_lines.specs.declared.labels.TestLabel.{TestLabel}
 use Rattle.sig_lines.proofs.PieceLaws.{AreLines, AreLines-append, plain_line, plain_words, spaced_words, ended_lines, lines_ended, tail_ended}
@@ -19,7 +19,7 @@ use Rattle.seq_cert.specs.declared.report.TreeLine.TheVariants.{Ask, Leaf}
 use Rattle.seq_cert.specs.declared.report.GroupLine.{GroupLine}
 use Rattle.seq_cert.specs.declared.report.MissedLine.{MissedLine}
 use Rattle.seq_cert.specs.LineForms.{class_in, test_in, is_tree_line, tree_line_in, group_in, missed_in, end_in}
-use Rattle.seq_cert.specs.Text.{class_words, state_words, test_words, tree_words, group_words, missed_words, class_lines, test_lines, missed_lines, report_lines, report_bytes}
+use Rattle.seq_cert.specs.Text.{class_words, state_words, tree_words, group_words, missed_words, class_lines, test_lines, missed_lines, report_lines, report_bytes}
 use Rattle.seq_cert.specs.Reading.{head_at, states_at, class_of, class_at, classes_at, lines_at, asks_after, with_asks, and_more, tree_lines_at, tree_at, missed_at, body_at, report_with, whole_at, is_nothing, only, report_at}
 use Rattle.seq_cert.specs.ReportForm.{head_of_report, IsHead, AreStates, IsClassLine, IsClass, AreClasses, IsTest, AreTreeLines, IsGroupLine, IsMissed, IsMissing, IsReport}
 use Rattle.seq_cert.proofs.Spells.{Took, Rereads, Spells, Took-then, ok_is, bind_ok, line_spells, pair_spells, then_spells, as_spells, fits_as, numbered_lines, many_spells}

@@ -4,14 +4,14 @@ use Rattle.std.specs.Prelude.{true, false, cond, nat_eq, codes}
 use Rattle.std.specs.List.{AllByRecursion}
 use Rattle.std.proofs.lemmas.Bool.{cases_Bool, eqb-true}
 use Rattle.std.proofs.lemmas.Bool.Decides.{nat_tests}
-use Rattle.sig_lines.specs.Pieces.{spaced}
+use Rattle.sig_lines.specs.Pieces.{spaced, Words, number_words}
 use Rattle.sig_lines.specs.Reading.{Cursor, ◌>>=◌, line_at, ◌then◌}
 use Rattle.sig_lines.proofs.PieceLaws.{AreLines}
 use Rattle.seq_inst.specs.declared.outcome.Verdict.{Verdict}
 use Rattle.seq_cert.specs.declared.head_reader.Head.{Head}
 use Rattle.seq_cert.specs.declared.report.StateLine.{StateLine}
 use Rattle.seq_cert.specs.LineForms.{most_64, is_label, is_mode, numbered, title_in, mode_in, result_in, state_in}
-use Rattle.seq_cert.specs.Text.{Words, number_words, title_words, mode_words, result_words, state_words}
+use Rattle.seq_cert.specs.Text.{title_words, mode_words, result_words, state_words}
 use Rattle.seq_cert.specs.Reading.{first_at, second_at, third_at, head_from, head_at, states_at}
 use Rattle.seq_cert.specs.ReportForm.{InRange, IsHead, IsState, AreStates}
 use Rattle.seq_cert.proofs.Spells.{Took, Rereads, Spells, Took-then, ok_is, bind_ok, line_spells, then_spells, as_spells, fits_as}

@@ -3,7 +3,6 @@ pub mod NumberOrder
 pub mod PickedStates
 pub mod Appended
 pub mod TreeText
-pub mod ReportText
 pub mod AllBytes
 pub mod WordForms
 pub mod TreeWords

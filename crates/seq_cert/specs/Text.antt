@@ -1,11 +1,11 @@
 -- The text of a report: its lines, each a list of words, in their order, and the bytes of these lines.
 use Rattle.std.specs.Prelude.{ℕ, suc, List, [], ◌∷◌, ◌++◌, length, map, decimal, codes, Option, Some, None}
 use Rattle.sig_lines.specs.Hex.{number_of_words, hex}
-use Rattle.sig_lines.specs.Pieces.{bytes_of}
+use Rattle.sig_lines.specs.Pieces.{Words, number_words, test_words, bytes_of}
 use Rattle.sig_lines.specs.declared.labels.TestLabel.{TestLabel}
 use Rattle.seq_inst.specs.declared.group.Group.{Group}
 use Rattle.seq_inst.specs.declared.outcome.Verdict.{Verdict}
-use Rattle.seq_inst.specs.declared.outcome.Verdict.TheVariants.{Optimal, Bounded}
+use Rattle.seq_inst.specs.Verdicts.{verdict_word}
 use Rattle.seq_cert.specs.declared.report.Report.{Report}
 use Rattle.seq_cert.specs.declared.report.ClassLine.{ClassLine}
 use Rattle.seq_cert.specs.declared.report.StateLine.{StateLine}
@@ -14,23 +14,11 @@ use Rattle.seq_cert.specs.declared.report.TreeLine.TheVariants.{Ask, Leaf}
 use Rattle.seq_cert.specs.declared.report.GroupLine.{GroupLine}
 use Rattle.seq_cert.specs.declared.report.MissedLine.{MissedLine}
 
--- the words of a line
-abbrev pub Words : Type 0
-Words = List (List ℕ)
-
--- a key and a number
-abbrev pub number_words : List ℕ → ℕ → Words
-number_words key n = key ∷ decimal n ∷ []
-
 abbrev pub title_words : Words
 title_words = codes "teams" ∷ codes "report" ∷ codes "1" ∷ []
 
 abbrev pub mode_words : List ℕ → Words
 mode_words mode = codes "mode" ∷ mode ∷ []
-
-abbrev pub verdict_word : Verdict → List ℕ
-verdict_word Optimal = codes "optimal"
-verdict_word Bounded = codes "bounded"
 
 abbrev pub result_words : Verdict → Words
 result_words verdict = codes "result" ∷ verdict_word verdict ∷ []
@@ -41,9 +29,6 @@ class_words k weight count = codes "class" ∷ decimal k ∷ decimal weight ∷ 
 
 abbrev pub state_words : StateLine → Words
 state_words s = codes "state" ∷ decimal s.weight ∷ s.label ∷ []
-
-abbrev pub test_words : ℕ → TestLabel → Words
-test_words k t = codes "test" ∷ decimal k ∷ decimal t.cost ∷ t.label ∷ []
 
 abbrev pub tree_words : TreeLine → Words
 tree_words (Ask t) = codes "ask" ∷ decimal t ∷ []

@@ -1,7 +1,7 @@
 //! The classes of a report, each with its states. Classes come in order, and the states of a class in
 //! order of states.
-ghost use Rattle.std.specs.Prelude.{◌≡◌, ◌<◌, ◌∷◌, [], false, length, map, slice_index_or, OnOk, All};
-ghost use Rattle.sig_lines.specs.Written.{with_lines};
+ghost use Rattle.std.specs.Prelude.{◌≡◌, ◌<◌, ◌∷◌, [], length, map, slice_index_or, OnOk, All};
+ghost use Rattle.sig_lines.specs.Written.{with_line, with_lines};
 ghost use Rattle.seq_theory.specs.Problem.{count_up};
 ghost use Rattle.seq_inst.specs.Instances.{problem_of};
 ghost use Rattle.seq_cert.specs.ByClass.{no_state};
@@ -13,10 +13,8 @@ use seq_inst::Instance;
 use sig_lines::{Lines, StateLabel};
 use std::alloc::{AllocError, Global};
 
-#[tactic(auto, using(sig_lines::proofs::WrittenLines::writing))]
 fn write_state(out: &mut Lines, state: &StateLabel) -> Result<(), AllocError>
-    requires { out.old.begun ≡ false }
-    ensures { OnOk result (out.new ≡ with_lines out.old (state_words (state_line state.now) ∷ [])) }
+    ensures { OnOk result (out.new ≡ with_line out.old (state_words (state_line state.now))) }
 {
     out.word("state")?;
     out.number(u64::from(state.weight))?;
@@ -25,10 +23,8 @@ fn write_state(out: &mut Lines, state: &StateLabel) -> Result<(), AllocError>
 }
 
 /// Writes the states with these numbers.
-#[tactic(auto, using(sig_lines::proofs::WrittenLines::writing))]
 fn write_states(out: &mut Lines, states: &[StateLabel], numbers: &[usize]) -> Result<(), AllocError>
-    requires begun { out.old.begun ≡ false }
-    requires there { All (λ i. i < length states.now) numbers.now }
+    requires { All (λ i. i < length states.now) numbers.now }
     ensures { OnOk result (out.new ≡ with_lines out.old (map (λ i. state_words (state_line (slice_index_or states.now i no_state))) numbers.now)) }
 {
     for at in 0..numbers.len() {
@@ -37,15 +33,13 @@ fn write_states(out: &mut Lines, states: &[StateLabel], numbers: &[usize]) -> Re
     Ok(())
 }
 
-#[tactic(auto, using(sig_lines::proofs::WrittenLines::writing))]
 fn write_class_line(
     out: &mut Lines,
     class: usize,
     weight: u64,
     count: usize,
 ) -> Result<(), AllocError>
-    requires { out.old.begun ≡ false }
-    ensures { OnOk result (out.new ≡ with_lines out.old (class_words class weight count ∷ [])) }
+    ensures { OnOk result (out.new ≡ with_line out.old (class_words class weight count)) }
 {
     out.word("class")?;
     out.number(class as u64)?;
@@ -55,7 +49,6 @@ fn write_class_line(
 }
 
 /// Writes a class with the states of these numbers.
-#[tactic(auto, using(sig_lines::proofs::WrittenLines::writing))]
 fn write_class(
     out: &mut Lines,
     class: usize,
@@ -63,8 +56,7 @@ fn write_class(
     states: &[StateLabel],
     numbers: &[usize],
 ) -> Result<(), AllocError>
-    requires begun { out.old.begun ≡ false }
-    requires there { All (λ i. i < length states.now) numbers.now }
+    requires { All (λ i. i < length states.now) numbers.now }
     ensures { OnOk result (out.new ≡ with_lines out.old (class_words class weight (length numbers.now) ∷ map (λ i. state_words (state_line (slice_index_or states.now i no_state))) numbers.now)) }
 {
     write_class_line(out, class, weight, numbers.len())?;
@@ -72,15 +64,13 @@ fn write_class(
 }
 
 /// Writes all classes with their states.
-#[tactic(auto, using(sig_lines::proofs::WrittenLines::writing))]
 pub fn write_classes(
     alloc: Global,
     out: &mut Lines,
     inst: &Instance,
     states: &[StateLabel],
 ) -> Result<(), AllocError>
-    requires begun { out.old.begun ≡ false }
-    requires there { All (λ (s : StateLabel). s.class < length inst.now.weights.items) states.now }
+    requires { All (λ (s : StateLabel). s.class < length inst.now.weights.items) states.now }
     ensures { OnOk result (out.new ≡ with_lines out.old (class_lines 0 (map (class_line (problem_of inst.now) states.now) (count_up 0 (length inst.now.weights.items))))) }
 {
     let lists = states_by_class(alloc, states, inst.weights.len())?;

@@ -1,17 +1,17 @@
 //! The entered groups of a report, by size and at one size by the group as a number. A stable sort puts
 //! them in order, so nothing is asked of the rows.
-ghost use Rattle.std.specs.Prelude.{◌≡◌, ◌^◌, ◌<◌, ◌∷◌, [], ℕ, false, length, map, slice_index, OnOk, IfOk, IfSome, All};
+ghost use Rattle.std.specs.Prelude.{◌≡◌, length, map, OnOk, IfOk, IfSome, All};
 ghost use Rattle.std.specs.Option.{option_map};
 ghost use Rattle.std.specs.Ordering.{is_lt, nat_cmp};
 ghost use Rattle.sig_lines.specs.Hex.{number_of_words};
-ghost use Rattle.sig_lines.specs.Written.{with_lines};
+ghost use Rattle.sig_lines.specs.Written.{with_line, with_lines};
 ghost use Rattle.seq_cert.specs.Text.{group_words, missed_words, missed_lines};
 ghost use Rattle.seq_cert.specs.Order.{is_before, in_order};
 ghost use Rattle.seq_cert.specs.OutcomeReport.{row_line, missed_line};
 ghost use Rattle.seq_cert.specs.ReportForm.{IsGroup, IsGroupLine, IsMissed};
 
 use crate::report::GroupLine;
-use seq_inst::{Group, Row, count_of};
+use seq_inst::{Group, Row, count_of, group_stands};
 use sig_lines::Lines;
 use std::alloc::{AllocError, Global};
 use std::cmp::Ordering;
@@ -48,22 +48,11 @@ pub fn comes_before(a: &GroupLine, b: &GroupLine) -> bool
     compare_lines(a, b).is_lt()
 }
 
-/// How long an array of eight words is, for proofs alone.
-fn know_eight(bits: &[u64; 8])
-    ensures { length bits.now ≡ 8 }
-{}
-
-/// How great words are, for proofs alone.
-fn know_words(bits: &[u64])
-    ensures { (i : ℕ) → slice_index bits.now i < 2 ^ 64 }
-{}
-
 /// That a group's words are those of its number, for proofs alone.
 fn know_group(group: &Group)
     ensures { IsGroup group.now }
 {
-    know_eight(&group.0);
-    know_words(&group.0);
+    group_stands(group);
 }
 
 /// The line of a row.
@@ -93,10 +82,8 @@ fn lines_in_order(alloc: Global, rows: &[Row]) -> Result<Vec<GroupLine>, AllocEr
     Ok(lines)
 }
 
-#[tactic(auto, using(sig_lines::proofs::WrittenLines::writing))]
 fn write_group(out: &mut Lines, line: &GroupLine) -> Result<(), AllocError>
-    requires { out.old.begun ≡ false }
-    ensures { OnOk result (out.new ≡ with_lines out.old (group_words line.now ∷ [])) }
+    ensures { OnOk result (out.new ≡ with_line out.old (group_words line.now)) }
 {
     out.word("group")?;
     out.number(u64::from(line.size))?;
@@ -105,9 +92,7 @@ fn write_group(out: &mut Lines, line: &GroupLine) -> Result<(), AllocError>
     out.end_line()
 }
 
-#[tactic(auto, using(sig_lines::proofs::WrittenLines::writing))]
 fn write_lines(out: &mut Lines, lines: &[GroupLine]) -> Result<(), AllocError>
-    requires { out.old.begun ≡ false }
     ensures { OnOk result (out.new ≡ with_lines out.old (map group_words lines.now)) }
 {
     for at in 0..lines.len() {
@@ -118,7 +103,6 @@ fn write_lines(out: &mut Lines, lines: &[GroupLine]) -> Result<(), AllocError>
 
 /// Writes the lines of the rows, in order.
 pub fn write_groups(alloc: Global, out: &mut Lines, rows: &[Row]) -> Result<(), AllocError>
-    requires { out.old.begun ≡ false }
     ensures written { OnOk result (out.new ≡ with_lines out.old (map group_words (in_order (map row_line rows.now)))) }
     ensures fits { OnOk result (All IsGroupLine (in_order (map row_line rows.now))) }
 {
@@ -127,9 +111,7 @@ pub fn write_groups(alloc: Global, out: &mut Lines, rows: &[Row]) -> Result<(), 
 }
 
 /// Writes the line of the group that was missed, where there is one.
-#[tactic(auto, using(sig_lines::proofs::WrittenLines::writing))]
 pub fn write_missed(out: &mut Lines, missed: Option<Group>) -> Result<(), AllocError>
-    requires { out.old.begun ≡ false }
     ensures written { OnOk result (out.new ≡ with_lines out.old (missed_lines (option_map missed_line missed))) }
     ensures fits { IfSome (option_map missed_line missed) IsMissed }
 {

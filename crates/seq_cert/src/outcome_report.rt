@@ -1,5 +1,5 @@
 //! The text of an outcome's report, written line by line without a report between.
-ghost use Rattle.std.specs.Prelude.{◌≡◌, ◌≤◌, ◌∷◌, [], codes, false, OnOk, IfOk};
+ghost use Rattle.std.specs.Prelude.{◌≡◌, ◌≤◌, OnOk, IfOk};
 ghost use Rattle.sig_lines.specs.Written.{with_lines};
 ghost use Rattle.seq_theory.specs.Tree.{AsksOnly};
 ghost use Rattle.seq_inst.specs.Instances.{problem_of};
@@ -20,15 +20,6 @@ use seq_inst::{Instance, Outcome, root};
 use sig_lines::{Labels, Lines};
 use std::alloc::{AllocError, Global};
 
-#[tactic(auto, using(sig_lines::proofs::WrittenLines::writing))]
-fn write_end(out: &mut Lines) -> Result<(), AllocError>
-    requires { out.old.begun ≡ false }
-    ensures { OnOk result (out.new ≡ with_lines out.old ((codes "end" ∷ []) ∷ [])) }
-{
-    out.word("end")?;
-    out.end_line()
-}
-
 /// How great the costs are, for proofs alone.
 fn know_costs(outcome: &Outcome)
     ensures cost { outcome.now.cost ≤ most_64 }
@@ -39,7 +30,6 @@ fn know_costs(outcome: &Outcome)
 }
 
 /// Writes all lines.
-#[tactic(auto, using(sig_lines::proofs::WrittenLines::writing))]
 fn write_report(
     alloc: Global,
     out: &mut Lines,
@@ -47,7 +37,6 @@ fn write_report(
     outcome: &Outcome,
     labels: &Labels,
 ) -> Result<(), AllocError>
-    requires begun { out.old.begun ≡ false }
     requires labels { AreLabelsOf (problem_of inst.now) labels.now }
     requires there { AsksOnly (problem_of inst.now).tests (tree_of outcome.now.strategy) }
     requires proper { outcome.now.low ≤ outcome.now.cost }
@@ -61,7 +50,7 @@ fn write_report(
     write_tree(out, inst, &outcome.strategy, &root(inst))?;
     write_groups(alloc, out, outcome.rows.as_slice())?;
     write_missed(out, outcome.missed)?;
-    write_end(out)?;
+    out.line(&["end"])?;
     Ok(())
 }
 

@@ -1,15 +1,14 @@
 //! The tests of a report, in order.
-ghost use Rattle.std.specs.Prelude.{◌≡◌, ◌∷◌, [], false, OnOk};
-ghost use Rattle.sig_lines.specs.Written.{with_lines};
-ghost use Rattle.seq_cert.specs.Text.{test_words, test_lines};
+ghost use Rattle.std.specs.Prelude.{◌≡◌, OnOk};
+ghost use Rattle.sig_lines.specs.Pieces.{test_words};
+ghost use Rattle.sig_lines.specs.Written.{with_line, with_lines};
+ghost use Rattle.seq_cert.specs.Text.{test_lines};
 
 use sig_lines::{Lines, TestLabel};
 use std::alloc::AllocError;
 
-#[tactic(auto, using(sig_lines::proofs::WrittenLines::writing))]
 fn write_test(out: &mut Lines, number: usize, test: &TestLabel) -> Result<(), AllocError>
-    requires { out.old.begun ≡ false }
-    ensures { OnOk result (out.new ≡ with_lines out.old (test_words number test.now ∷ [])) }
+    ensures { OnOk result (out.new ≡ with_line out.old (test_words number test.now)) }
 {
     out.word("test")?;
     out.number(number as u64)?;
@@ -19,9 +18,7 @@ fn write_test(out: &mut Lines, number: usize, test: &TestLabel) -> Result<(), Al
 }
 
 /// Writes all tests.
-#[tactic(auto, using(sig_lines::proofs::WrittenLines::writing))]
 pub fn write_tests(out: &mut Lines, tests: &[TestLabel]) -> Result<(), AllocError>
-    requires { out.old.begun ≡ false }
     ensures { OnOk result (out.new ≡ with_lines out.old (test_lines 0 tests.now)) }
 {
     for number in 0..tests.len() {

@@ -1,7 +1,7 @@
 //! The strategy of a report in preorder. The group that reaches a node is carried along: at an end it
 //! says which class that is.
-ghost use Rattle.std.specs.Prelude.{◌≡◌, ◌∷◌, [], false, map, slice_index, OnOk};
-ghost use Rattle.sig_lines.specs.Written.{with_lines};
+ghost use Rattle.std.specs.Prelude.{◌≡◌, ◌∷◌, [], map, slice_index, OnOk};
+ghost use Rattle.sig_lines.specs.Written.{with_line, with_lines};
 ghost use Rattle.seq_theory.specs.Tree.{AsksOnly};
 ghost use Rattle.seq_inst.specs.Instances.{problem_of};
 ghost use Rattle.seq_inst.specs.Members.{members};
@@ -18,28 +18,22 @@ use std::alloc::AllocError;
 pub fn lowest_class(group: &Group) -> u32
     ensures { result ≡ slice_index (members group.now) 0 }
 {
-    for class in 0..512 {
-        if group.has(class) {
-            return class;
-        }
+    match group.first_from(0) {
+        Some(class) => class,
+        None => 0,
     }
-    0
 }
 
-#[tactic(auto, using(sig_lines::proofs::WrittenLines::writing))]
 fn write_ask(out: &mut Lines, test: u32) -> Result<(), AllocError>
-    requires { out.old.begun ≡ false }
-    ensures { OnOk result (out.new ≡ with_lines out.old (tree_words (Ask test) ∷ [])) }
+    ensures { OnOk result (out.new ≡ with_line out.old (tree_words (Ask test))) }
 {
     out.word("ask")?;
     out.number(u64::from(test))?;
     out.end_line()
 }
 
-#[tactic(auto, using(sig_lines::proofs::WrittenLines::writing))]
 fn write_leaf(out: &mut Lines, class: u32) -> Result<(), AllocError>
-    requires { out.old.begun ≡ false }
-    ensures { OnOk result (out.new ≡ with_lines out.old (tree_words (Leaf class) ∷ [])) }
+    ensures { OnOk result (out.new ≡ with_line out.old (tree_words (Leaf class))) }
 {
     out.word("leaf")?;
     out.number(u64::from(class))?;
@@ -48,15 +42,13 @@ fn write_leaf(out: &mut Lines, class: u32) -> Result<(), AllocError>
 
 /// Writes the strategy from the group on: a test, what follows for the part that passes, and then what
 /// follows for the part that fails.
-#[tactic(auto, using(sig_lines::proofs::WrittenLines::writing))]
 pub fn write_tree(
     out: &mut Lines,
     inst: &Instance,
     strategy: &Strategy,
     group: &Group,
 ) -> Result<(), AllocError>
-    requires begun { out.old.begun ≡ false }
-    requires there { AsksOnly (problem_of inst.now).tests (tree_of strategy.now) }
+    requires { AsksOnly (problem_of inst.now).tests (tree_of strategy.now) }
     ensures { OnOk result (out.new ≡ with_lines out.old (map tree_words (tree_lines (problem_of inst.now) (tree_of strategy.now) (members group.now)))) }
 {
     match strategy {

@@ -5,7 +5,8 @@ use Rattle.std.specs.Prelude.{codes}
 use Rattle.sig_lines.specs.declared.labels.TestLabel.{TestLabel}
 use Rattle.seq_cert.specs.declared.report.Report.{Report}
 use Rattle.seq_cert.specs.declared.report.ClassLine.{ClassLine}
-use Rattle.seq_cert.specs.Text.{Words, head_lines, class_lines, test_lines, state_words, tree_words, group_words, missed_lines, report_lines}
+use Rattle.sig_lines.specs.Pieces.{Words}
+use Rattle.seq_cert.specs.Text.{head_lines, class_lines, test_lines, state_words, tree_words, group_words, missed_lines, report_lines}
 use Rattle.seq_check.specs.Lines.{class_length, missed_at}
 
 length-class_lines : (k : ℕ) (cs : List ClassLine) → length (class_lines k cs) ≡ class_length cs

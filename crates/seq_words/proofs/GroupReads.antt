@@ -1,5 +1,5 @@
 -- Reading the bits words of a place.
-use Rattle.std.proofs.Common.{◌≡◌, ℕ, zero, suc, ◌+◌, ◌<◌, List, [], ◌∷◌, ◌++◌, length, get_or, set, refl, sym, ap, ◌∙◌, subst, arith, length-set, length-append, get_or-set_same}
+use Rattle.std.proofs.Common.{◌≡◌, ℕ, zero, suc, ◌+◌, ◌<◌, List, [], ◌∷◌, ◌++◌, length, get_or, set, refl, sym, ap, ◌∙◌, subst, arith, length-set, length-append}
 use Rattle.std.proofs.lemmas.List.{get_or-set_other, set-get_or}
 use Rattle.std.proofs.lemmas.Grind.{get_or-set_at}
 use Rattle.std.proofs.Math.ListN.{get_or-append}
@@ -7,23 +7,17 @@ use Rattle.std.proofs.Math.Seq.{get_or-append_seam}
 use mathlib.Core.Logic.{dite}
 use native.Mathlib.Decide.{dec_le, ℕ_discrete}
 use Rattle.seq_words.specs.declared.view.Known.{Known}
-use Rattle.seq_words.specs.declared.view.View.{View}
 use Rattle.seq_words.specs.Knowledge.{unknown, known, IsThere}
 use Rattle.seq_words.specs.Plays.{knows, knows_bits}
 use Rattle.seq_words.specs.Seats.{Wording, Sitting, IsOf, ReadsBits, Reading}
 use Rattle.seq_words.proofs.Core.{same_list}
 use Rattle.seq_words.proofs.Views.{there_inside}
+use Rattle.seq_words.proofs.Covering.{known_here, of_knows}
 
 set_twice : {X : Type 0} (l : List X) (i : ℕ) (a b : X) → set (set l i a) i b ≡ set l i b
 set_twice [] i a b = refl
 set_twice (x ∷ xs) zero a b = refl
 set_twice (x ∷ xs) (suc i) a b = λ k. x ∷ set_twice xs i a b k
-
-known_here : (v : View) (p : ℕ) (k : Known) → p < length v.known → known (knows p k v) p ≡ k
-known_here v p k h = get_or-set_same v.known p k unknown h
-
-of_knows : (w : Wording) (x : Sitting) (p : ℕ) (k : Known) → IsOf w x → IsOf w record { table = x.table; view = knows p k x.view }
-of_knows w x p k f = record { table = f.table; told = f.told; limit = f.limit; sized = length-set x.view.known p k ∙ f.sized }
 
 pub reading_first : (w : Wording) (x : Sitting) (p : ℕ) (group : List ℕ) → IsOf w x → IsThere p x.view → Reading w x p x group 0
 reading_first w x p group f t = record {

@@ -5,10 +5,14 @@ pub mod Licence
 pub mod Events
 pub mod Later
 pub mod Views
+pub mod CoreEvents
 pub mod BoundSteps
 pub mod SeeSteps
 pub mod PublishSteps
 pub mod ShareSteps
+pub mod Covering
+pub mod Published
 pub mod GroupReads
 pub mod ClosedRows
 pub mod Looks
+pub mod ExampleLaws

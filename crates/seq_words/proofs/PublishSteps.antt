@@ -1,14 +1,15 @@
 -- Stores by the scribe: the words of bits of a new place one by one, and its state word, which enters the group in the core.
-use Rattle.std.proofs.Common.{◌≡◌, ◌≢◌, ⊎_elim, ℕ, suc, ◌+◌, ◌*◌, ◌<◌, true, false, List, [], ◌∷◌, ◌++◌, length, get_or, set, refl, sym, ap, ◌∙◌, subst, arith, length-set, get_or-set_same}
+use Rattle.std.proofs.Common.{◌≡◌, ◌≢◌, ⊎_elim, ℕ, ◌+◌, ◌<◌, true, false, List, [], ◌∷◌, length, get_or, set, refl, sym, ap, ◌∙◌, subst, arith, length-set, get_or-set_same}
 use Rattle.std.proofs.lemmas.List.{get_or-set_other}
+use Rattle.std.proofs.lemmas.Bool.{false≢true}
 use mathlib.Core.Logic.{dite}
 use mathlib.Core.Option.{none, some}
 use native.Mathlib.Decide.{ℕ_discrete}
 use lib.ListN.{get_elem?}
 use Rattle.atomic_table.specs.Table.{State, step, keeps, stepped, Allows}
 use Rattle.atomic_table.proofs.Lists.{at_set}
-use Rattle.seq_theory.specs.Graph.{IsReal, is_entered}
-use Rattle.seq_theory.specs.Rows.{no_value, groups_of, IsSound, enter, after}
+use Rattle.seq_theory.specs.Graph.{IsReal}
+use Rattle.seq_theory.specs.Rows.{no_value, IsSound, enter}
 use Rattle.seq_inst.specs.declared.instance.Instance.{Instance}
 use Rattle.seq_inst.specs.declared.outcome.Row.{Row}
 use Rattle.seq_inst.specs.Instances.{problem_of}
@@ -17,14 +18,15 @@ use Rattle.seq_words.specs.declared.view.Known.{Known}
 use Rattle.seq_words.specs.declared.view.View.{View}
 use Rattle.seq_words.specs.declared.view.Role.TheVariants.{Scribe}
 use Rattle.seq_words.specs.RowsOf.{rows_of, classes_of}
-use Rattle.seq_words.specs.Layout.{bits_at, state_at, low_at, up_at, span, row_held, core_of}
+use Rattle.seq_words.specs.Layout.{bits_at, state_at, low_at, up_at, core_of}
 use Rattle.seq_words.specs.Knowledge.{problem_in, unknown, known, heard}
 use Rattle.seq_words.specs.Rule.{Stands, Drafts, Fits, Kept}
 use Rattle.seq_words.specs.Plays.{begins, writes, publishes, Begins, Writes, Publishes}
-use Rattle.seq_words.proofs.Core.{same_list, span_at, length-core, core_at, core_same}
-use Rattle.seq_words.proofs.Events.{event-sound, rows-more, length-rows, not-entered}
-use Rattle.seq_words.proofs.Later.{Later, stands_later, fits_other, read_set, other_state, row_state, later_state, later_bits, row_bits_other}
-use Rattle.seq_words.proofs.Views.{known_set, count_of, scribe_live, mine, group_is, goes, M}
+use Rattle.seq_words.specs.Laws.{IsPlayed}
+use Rattle.seq_words.proofs.Events.{event-sound}
+use Rattle.seq_words.proofs.CoreEvents.{writing, publishing}
+use Rattle.seq_words.proofs.Later.{Later, stands_later, fits_other, read_set, other_state, later_state, later_bits}
+use Rattle.seq_words.proofs.Views.{known_set, count_of, scribe_live, mine, goes, M}
 
 -- another view beside a scribe's is no scribe's
 others_not : (inst : Instance) (limit : ℕ) (ws : List ℕ) (seat count id : ℕ) (v : View) (n : ℕ) → v.role ≡ Scribe n → Fits inst limit ws seat count id v → (j : ℕ) (u : View) → j ≢ id → Fits inst limit ws seat count j u → (m : ℕ) → u.role ≢ Scribe m
@@ -46,7 +48,7 @@ stores inst limit s r id v at n j x w is room small er ek eh ei el drafts c =
     let known_is : (p : ℕ) → known w p ≡ known v p = λ p. ap (λ (ks : List Known). get_or ks p unknown) ek in
     goes inst limit s r id v at (bits_at n j) x w (λ e. omega arith) later (λ q. other (state_at q) (λ e. omega arith))
     (λ q h b. let f = r.fresh q h b in (other (low_at q) (λ e. omega arith) ∙ f.0, other (up_at q) (λ e. omega arith) ∙ f.1))
-    (subst (λ (l : List Row). IsSound (problem_of inst) limit (rows_of l)) (sym (core_same ws ws' r.count (λ q b. row_bits_other ws n j x q small (λ e. omega arith)))) r.sound)
+    (subst (λ (l : List Row). IsSound (problem_of inst) limit (rows_of l)) (sym (writing inst limit s r id v at n j x is small)) r.sound)
     record {
       scribe = λ m e. let mn : n ≡ m = ap count_of (sym role ∙ e) in ((fit.scribe n is).0, sym mn ∙ here);
       knows = λ m e p b. let mn : n ≡ m = ap count_of (sym role ∙ e) in let f = fit.knows n is p (omega arith) in subst (λ (z : Known). (z.there ≡ true) × (length z.bits ≡ 8)) (sym (known_is p)) f;
@@ -117,6 +119,18 @@ writes_at inst limit slots id me n x is some_stored few val s r _ at tiny =
       refl,
     )
 
+-- of a place that is not known to be published, and that has its first bounds, nothing is known
+nothing_known : (ws : List ℕ) (p : ℕ) (k : Known) → Stands ws p k → k.there ≡ false → (get_or ws (low_at p) 0 ≡ 0) × (get_or ws (up_at p) 0 ≡ no_value) → k ≡ unknown
+nothing_known ws p k st free fresh =
+    let bits : k.bits ≡ [] = no_bits k.bits (λ h. absurd (false≢true (sym free ∙ st.first h))) in
+    let low : k.low ≡ 0 = let a = st.low in let b = fresh.0 in omega arith in
+    let up : k.up ≡ no_value = let a = st.up in let b = fresh.1 in let d = st.most in omega arith in
+    λ i. record { there = free i; bits = bits i; low = low i; up = up i }
+  where
+    no_bits : (l : List ℕ) → (0 < length l → ⊥) → l ≡ []
+    no_bits [] h = refl
+    no_bits (x ∷ xs) h = absurd (h (omega arith))
+
 pub publishes_at : (inst : Instance) (limit slots id : ℕ) (me : M) (n : ℕ) → me.0.role ≡ Scribe n → me.0.stored ≡ 8
     → Allows (Kept inst limit) slots id me (state_at n) (λ _. 1) (λ _. Publishes (step slots (state_at n) 1 0 none) me 1)
 publishes_at inst limit slots id me n is all_stored s r _ at tiny =
@@ -137,23 +151,10 @@ publishes_at inst limit slots id me n is all_stored s r _ at tiny =
     let is_now : get_or ws' (state_at n) 0 ≡ 1 = get_or-set_same ws (state_at n) 1 0 in_words in
     let fresh = r.fresh n (omega arith) room in
     let whole = d.whole some_stored in
-    let group : span ws (11 * n + 2) 8 ≡ v.draft = same_list (span ws (11 * n + 2) 8) v.draft 0 (sym whole)
-    (λ j h. let b : j < 8 = h in span_at ws (11 * n + 2) 8 j b ∙ (ap (λ k. get_or ws k 0) (omega arith) ∙ d.stored j (omega arith))) in
-    let drafted : Row = record { group = record { 0 = v.draft }; low = 0; up = no_value } in
-    let new_row : row_held ws' n ≡ drafted = row_state ws n 1 n ∙ (λ k. record { group = record { 0 = group k }; low = fresh.0 k; up = fresh.1 k }) in
     let q = problem_of inst in
-    let rows = core_of ws n in
-    let len = length-core ws n in
-    let many = length-rows rows in
-    let sound_n : IsSound q limit (rows_of rows) = subst (λ z. IsSound q limit (rows_of (core_of ws z))) (sym here) r.sound in
-    let absent : is_entered (groups_of (rows_of rows)) (classes_of v.draft) ≡ false = not-entered rows (classes_of v.draft)
-    (λ i b e. let b' : i < n = omega arith in let k = fit.knows n is i b' in
-    d.new some_stored i b' (sym (ap classes_of (group_is inst limit s r id v at i k.1)) ∙ (sym (ap (λ (z : Row). classes_of z.group.0) (core_at ws n i b')) ∙ e))) in
-    let few : length (rows_of rows) < limit = omega arith in
-    let entered = event-sound inst limit (rows_of rows) (enter (classes_of v.draft)) sound_n (d.real some_stored, absent, few) in
-    let cores : core_of ws' (n + 1) ≡ rows ++ drafted ∷ [] =
-    let one : n + 1 ≡ suc n = omega arith in ap (core_of ws') one ∙ (λ k. core_same ws ws' n (λ z b. row_state ws n 1 z) k ++ new_row k ∷ []) in
-    let events : rows_of (core_of ws' (n + 1)) ≡ after (rows_of rows) (enter (classes_of v.draft)) = ap rows_of cores ∙ rows-more rows drafted in
+    let played = subst (λ z. IsPlayed q limit (core_of ws z) (core_of ws' (z + 1)) (enter (classes_of v.draft))) (sym here) (publishing inst limit s r id v at n is all_stored) in
+    let sound_n : IsSound q limit (rows_of (core_of ws n)) = subst (λ z. IsSound q limit (rows_of (core_of ws z))) (sym here) r.sound in
+    let entered = event-sound inst limit (rows_of (core_of ws n)) (enter (classes_of v.draft)) sound_n played.allowed in
     let w = publishes n v in
     let next : M = (w, me.1) in
     let k : Known = record { there = true; bits = v.draft; low = 0; up = no_value } in
@@ -173,7 +174,7 @@ publishes_at inst limit slots id me n is all_stored s r _ at tiny =
         unpublished = λ q b. other (state_at q) (λ e. omega arith) ∙ r.unpublished q (omega arith);
         fresh = λ q h b. let f = r.fresh q (omega arith) b in (other (low_at q) (λ e. omega arith) ∙ f.0, other (up_at q) (λ e. omega arith) ∙ f.1);
         small = λ p. let a = r.small p in let b = later.up p in omega arith;
-        sound = subst (IsSound q limit) (sym events) entered;
+        sound = subst (IsSound q limit) (sym played.after) entered;
         views = λ j u e. ⊎_elim
             (λ (x : (j ≡ id) × (w ≡ u)). subst (λ (y : ℕ × View). Fits inst limit ws' r.seat (n + 1) y.0 y.1) (λ i'. (sym x.0 i', x.1 i')) record {
               scribe = λ m eq. let mn : n + 1 ≡ m = ap count_of eq in ((fit.scribe n is).0, sym mn);
@@ -197,5 +198,5 @@ publishes_at inst limit slots id me n is all_stored s r _ at tiny =
             (λ (x : (j ≢ id) × (get_elem? s.views j ≡ some u)). let f = r.views j u x.1 in fits_other inst limit ws ws' r.seat r.count (n + 1) j u later (others_not inst limit ws r.seat r.count id v n is fit j u x.0 f) f)
             (at_set s.views id j w u e);
       },
-      (λ q e. let same : n ≡ q = omega arith in subst (λ (j : ℕ). next ≡ (publishes j v, me.1)) same refl),
+      (λ q e. let same : n ≡ q = omega arith in subst (λ (j : ℕ). (next ≡ (publishes j v, me.1)) × (known v j ≡ unknown)) same (refl, nothing_known ws n (known v n) (fit.stands n) (fit.no_other n is n (omega arith)) fresh)),
     )

@@ -58,8 +58,9 @@ Begins bits st m stored m' = m' ≡ (begins bits m.0, m.1)
 abbrev pub Writes : At → Sat → ℕ → Sat → Type 0
 Writes st m stored m' = m' ≡ (writes m.0, m.1)
 
+-- of the place that is published, nothing was known
 abbrev pub Publishes : At → Sat → ℕ → Sat → Type 0
-Publishes st m stored m' = (place : ℕ) → st.word ≡ state_at place → m' ≡ (publishes place m.0, m.1)
+Publishes st m stored m' = (place : ℕ) → st.word ≡ state_at place → (m' ≡ (publishes place m.0, m.1)) × (known m.0 place ≡ unknown)
 
 -- a state word: the place is published, or a further free find that was not known to be published
 abbrev pub Finds : At → Sat → ℕ → Sat → Type 0

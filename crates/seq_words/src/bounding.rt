@@ -2,7 +2,7 @@
 //! number is at most, or at least, what the rows that it knows allow. A worker that raises from an old
 //! view does no harm, as lows grow and ups fall wherever groups are added.
 ghost use Rattle.std.specs.Prelude.{◌≡◌, ◌≤◌};
-ghost use Rattle.seq_words.specs.Knowledge.{MayRaise, MayCap, low_seen, up_seen, IsLowAt, IsUpAt};
+ghost use Rattle.seq_words.specs.Knowledge.{MayRaise, MayCap, known, low_seen, up_seen, IsLow, IsUp, Covers};
 ghost use Rattle.seq_words.specs.Plays.{hears_low, hears_up};
 ghost use Rattle.seq_words.specs.Seats.{IsOf, sees};
 
@@ -16,7 +16,9 @@ pub fn raise(words: &Words, seat: &mut Seat, place: u32, to: u64) -> u64
     requires may { MayRaise seat.old.view place to }
     ensures reached { to ≤ result }
     ensures kept { low_seen place seat.old.view ≤ result }
-    ensures right { IsLowAt place seat.old.view result }
+    ensures right { IsLow seat.old.view.told (known seat.old.view place).bits result }
+    ensures of { IsOf words.now seat.new }
+    ensures covers { Covers seat.new.view seat.old.view }
     ensures learns { seat.new ≡ sees seat.old (hears_low place result seat.old.view) }
 {
     let found = words
@@ -32,7 +34,9 @@ pub fn lower_cap(words: &Words, seat: &mut Seat, place: u32, to: u64) -> u64
     requires may { MayCap seat.old.view place to }
     ensures reached { result ≤ to }
     ensures kept { result ≤ up_seen place seat.old.view }
-    ensures right { IsUpAt place seat.old.view result }
+    ensures right { IsUp seat.old.view.told (known seat.old.view place).bits result }
+    ensures of { IsOf words.now seat.new }
+    ensures covers { Covers seat.new.view seat.old.view }
     ensures learns { seat.new ≡ sees seat.old (hears_up place result seat.old.view) }
 {
     let found = words

@@ -28,7 +28,7 @@ pub fn learn(words: &Words, scribe: &mut Scribe, mut seat: Seat) -> Seat
     requires seat { IsOf words.now seat }
     ensures same { scribe.new ≡ scribe.old }
     ensures of { IsOf words.now result }
-    ensures kept { Covers result.view seat.view }
+    ensures covers { Covers result.view seat.view }
     ensures told { Covers result.view scribe.old.view }
     ensures learns { result ≡ sees seat (learnt seat.view scribe.old.view) }
 {

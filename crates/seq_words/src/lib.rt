@@ -14,6 +14,7 @@
 
 mod bounding;
 mod closing;
+mod laws;
 mod layout;
 mod learning;
 mod making;
@@ -28,6 +29,7 @@ mod words;
 
 pub use bounding::{lower_cap, raise};
 pub use closing::{Closed, close};
+pub use laws::steps_are_events;
 pub use learning::learn;
 pub use making::{Made, make_words};
 pub use publishing::publish;

@@ -93,6 +93,7 @@ pub fn make_words(
     ensures scribe { IfOk result (λ m. m.scribe ≡ record { table = m.words.table; view = opener inst.now limit }) }
     ensures seats { IfOk result (λ m. All (λ s. s ≡ record { table = m.words.table; view = as_worker (opener inst.now limit) }) m.seats.items) }
     ensures count { IfOk result (λ m. length m.seats.items ≡ seats) }
+    ensures of { IfOk result (λ m. IsOf m.words m.scribe × All (λ s. IsOf m.words s) m.seats.items) }
 {
     let (words, mut scribe) = first(alloc, inst, limit)?;
     let seats = deal(alloc, &words, &mut scribe, seats)?;

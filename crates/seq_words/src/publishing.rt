@@ -1,6 +1,6 @@
 //! Publishing a group: its eight words of bits are stored one by one, and then the state word, so that
 //! no seat reads a group that is half written.
-ghost use Rattle.std.specs.Prelude.{◌≡◌, ◌≤◌, ◌<◌, ◌*◌, ◌+◌, ℕ, length, slice_index};
+ghost use Rattle.std.specs.Prelude.{◌≡◌, ◌≢◌, ◌≤◌, ◌<◌, ◌*◌, ◌+◌, ℕ, length, slice_index};
 ghost use Rattle.seq_words.specs.Layout.{bits_at, state_at};
 ghost use Rattle.seq_words.specs.Knowledge.{HasGroup, Covers, known, unknown};
 ghost use Rattle.seq_words.specs.Plays.{begins, writes, publishes, published};
@@ -13,13 +13,8 @@ use crate::rule::Bounds;
 use crate::view::{Terms, View};
 use crate::words::{Scribe, Words};
 use atomic_table::{Seat, Shared};
-use seq_inst::Group;
+use seq_inst::{Group, group_stands};
 use std::marker::Brand;
-
-/// That a group is eight words is known of the type. This brings it to proofs, and does nothing.
-fn know_eight(words: &[u64; 8])
-    ensures { length words.now ≡ 8 }
-{}
 
 /// Stores the first word of bits.
 fn begin<D: Drafting>(
@@ -33,7 +28,7 @@ fn begin<D: Drafting>(
     requires may { MayPublish seat.old.me.0 place group.now }
     ensures { (seat.new.table_id ≡ seat.old.table_id) × (seat.new.me ≡ (begins group.now.0 seat.old.me.0, seat.old.me.1)) }
 {
-    know_eight(&group.0);
+    group_stands(group);
     table.store::<Begin<D>>(seat, bits_word(place, 0), group.0[0]);
 }
 
@@ -59,7 +54,8 @@ fn show(table: &Shared<(), View, Terms, Bounds>, seat: &mut Seat<(), View>, plac
     requires table { (seat.old.table_id ≡ table.now.table_id) × (state_at place < table.now.table_id.words) }
     requires role { seat.old.me.0.role ≡ Scribes place }
     requires stored { seat.old.me.0.stored ≡ 8 }
-    ensures { (seat.new.table_id ≡ seat.old.table_id) × (seat.new.me ≡ (publishes place seat.old.me.0, seat.old.me.1)) }
+    ensures fresh { known seat.old.me.0 place ≡ unknown }
+    ensures learns { (seat.new.table_id ≡ seat.old.table_id) × (seat.new.me ≡ (publishes place seat.old.me.0, seat.old.me.1)) }
 {
     table.store::<Publish>(seat, state_word(place), 1);
 }
@@ -73,7 +69,8 @@ fn write_group(
 )
     requires table { (seat.old.table_id ≡ table.now.table_id) × (state_at place < table.now.table_id.words) }
     requires may { MayPublish seat.old.me.0 place group.now }
-    ensures { (seat.new.table_id ≡ seat.old.table_id) × (seat.new.me ≡ (published place group.now.0 seat.old.me.0, seat.old.me.1)) }
+    ensures fresh { known seat.old.me.0 place ≡ unknown }
+    ensures learns { (seat.new.table_id ≡ seat.old.table_id) × (seat.new.me ≡ (published place group.now.0 seat.old.me.0, seat.old.me.1)) }
 {
     begin::<Brand>(table, seat, place, group);
     for part in 1..8 {
@@ -87,7 +84,12 @@ fn write_group(
 pub fn publish(words: &Words, scribe: &mut Scribe, place: u32, group: &Group)
     requires scribe { IsOf words.now scribe.old }
     requires may { MayPublish scribe.old.view place group.now }
-    ensures { scribe.new ≡ sees scribe.old (published place group.now.0 scribe.old.view) }
+    ensures of { IsOf words.now scribe.new }
+    ensures knows { HasGroup place group.now.0 scribe.new.view }
+    ensures covers { Covers scribe.new.view scribe.old.view }
+    ensures others { (other : ℕ) → other ≢ place → known scribe.new.view other ≡ known scribe.old.view other }
+    ensures learns { scribe.new ≡ sees scribe.old (published place group.now.0 scribe.old.view) }
 {
+    group_stands(group);
     write_group(&words.table.shared, &mut scribe.seat, place, group);
 }

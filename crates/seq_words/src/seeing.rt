@@ -1,7 +1,7 @@
 //! Looking at a place. Its bits are read only after its state was seen as published, and they never
 //! change after that.
 ghost use Rattle.std.specs.Prelude.{◌≡◌, ◌≤◌, ◌<◌, false, length, slice_index, MatchBool};
-ghost use Rattle.seq_words.specs.Knowledge.{known, IsThere, HasGroup, low_seen, up_seen, IsLowAt, IsUpAt};
+ghost use Rattle.seq_words.specs.Knowledge.{known, Covers, IsThere, HasGroup, low_seen, up_seen, IsLowAt, IsUpAt};
 ghost use Rattle.seq_words.specs.Plays.{knows_bits, hears, hears_low, hears_up, finds_free};
 ghost use Rattle.seq_words.specs.Seats.{IsOf, Looked, ReadsBits, sees};
 
@@ -86,7 +86,9 @@ fn look_up(words: &Words, seat: &mut Seat, place: u32) -> u64
 pub fn see(words: &Words, seat: &mut Seat, place: u32) -> Seen
     requires seat { IsOf words.now seat.old }
     requires room { place < words.now.limit }
-    ensures { Looked place seat.old seat.new result }
+    ensures looked { Looked place seat.old seat.new result }
+    ensures of { IsOf words.now seat.new }
+    ensures covers { Covers seat.new.view seat.old.view }
 {
     if !find(words, seat, place) {
         return Seen::Free;

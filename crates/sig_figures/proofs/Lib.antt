@@ -5,4 +5,3 @@ pub mod ColumnLaws
 pub mod SizeLaws
 pub mod LoopLaws
 pub mod NamedLaws
-pub mod Appended

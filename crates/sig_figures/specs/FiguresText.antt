@@ -1,11 +1,10 @@
 -- The figures text: what it says, line by line, each line a list of words.
 use Rattle.std.specs.Prelude.{ℕ, codes, decimal, List, [], ◌∷◌, ◌++◌, map, slice_index_or}
-use Rattle.sig_lines.specs.Pieces.{bytes_of}
+use Rattle.sig_lines.specs.Pieces.{Words, number_words, bytes_of}
 use Rattle.sig_flat.specs.declared.flat.Flat.{Flat}
 use Rattle.sig_reach.specs.Paths.{no_node}
 use Rattle.sig_matrix.specs.declared.matrix.Matrix.{Matrix}
 use Rattle.sig_matrix.specs.Detection.{no_row, no_label}
-use Rattle.sig_matrix.specs.MatrixText.{Words, number_words}
 use Rattle.sig_figures.specs.declared.summary.Figures.{Figures}
 use Rattle.sig_figures.specs.declared.summary.SizeCount.{SizeCount}
 use Rattle.sig_figures.specs.declared.summary.EqualTest.{EqualTest}

@@ -64,7 +64,7 @@ fn loop_marks(alloc: Global, flat: &Flat, mode: Option<u32>) -> Result<Vec<bool>
     }
 }
 
-/// The nodes on a loop in the mode, or in any where none is named. It costs a pass over the links for each node and mode.
+/// The nodes on a loop in the mode, or in any where none is named. It costs a look at each node and link for each mode.
 pub fn looped_nodes(alloc: Global, flat: &Flat, mode: Option<u32>) -> Result<List<u32>, AllocError>
     requires valid { IsValid flat.now }
     requires mode { IfSome mode (λ m. m < length flat.now.modes) }

@@ -1,60 +1,44 @@
--- Whole lines that are written word by word. Each lemma takes the calls that write one line, from the start of a line on,
--- for the line that `with_lines` appends; the last ones join the lines of several writers. A writer names the ones that
--- it needs, or all of them as `writing`.
-use Rattle.std.proofs.Common.{◌≡◌, false, List, [], ◌∷◌, ◌++◌, ℕ, refl, sym, ap, ◌∙◌, append_assoc, append-nil}
-use Rattle.std.specs.Prelude.{Bool, map}
-use Rattle.std.proofs.lemmas.List.{map-append}
-use Rattle.sig_lines.specs.Pieces.{spaced, ended, bytes_of}
-use Rattle.sig_lines.specs.Written.{Written, nothing_written, with_word, with_end, with_lines}
+-- The bytes of lines that are written word by word, from the start of a line on. Once a line has begun, each further word
+-- brings a space and itself; so the words of a line come to the words with one space between.
+use Rattle.std.proofs.Common.{◌≡◌, true, false, List, [], ◌∷◌, ◌++◌, ℕ, refl, sym, ap, ◌∙◌, append_assoc, append-nil}
+use Rattle.std.specs.List.{fold}
+use Rattle.sig_lines.specs.Pieces.{Words, spaced, bytes_of}
+use Rattle.sig_lines.specs.Written.{Written, nothing_written, with_word, with_end, with_line, with_lines}
 
-pub line_of_one : (w : Written) (a : List ℕ) → w.begun ≡ false → with_end (with_word w a) ≡ with_lines w ((a ∷ []) ∷ [])
-unfolding with_word with_end with_lines
-line_of_one w a e = rw e (simp append_assoc)
+-- a text whose last line has begun, and one at the start of a line
+abbrev inside : List ℕ → Written
+inside t = record { text = t; begun = true }
 
-pub line_of_two : (w : Written) (a b : List ℕ) → w.begun ≡ false → with_end (with_word (with_word w a) b) ≡ with_lines w ((a ∷ b ∷ []) ∷ [])
-unfolding with_word with_end with_lines
-line_of_two w a b e = rw e (simp append_assoc)
+abbrev before : List ℕ → Written
+before t = record { text = t; begun = false }
 
-pub line_of_three : (w : Written) (a b c : List ℕ) → w.begun ≡ false → with_end (with_word (with_word (with_word w a) b) c) ≡ with_lines w ((a ∷ b ∷ c ∷ []) ∷ [])
-unfolding with_word with_end with_lines
-line_of_three w a b c e = rw e (simp append_assoc)
+-- words, each after a space
+abbrev each_after : Words → List ℕ
+each_after [] = []
+each_after (w ∷ ws) = 32 ∷ (w ++ each_after ws)
 
-pub line_of_four : (w : Written) (a b c d : List ℕ) → w.begun ≡ false → with_end (with_word (with_word (with_word (with_word w a) b) c) d) ≡ with_lines w ((a ∷ b ∷ c ∷ d ∷ []) ∷ [])
-unfolding with_word with_end with_lines
-line_of_four w a b c d e = rw e (simp append_assoc)
+spaced-first : (w : List ℕ) (ws : Words) → spaced (w ∷ ws) ≡ w ++ each_after ws
+spaced-first w [] = sym (append-nil w)
+spaced-first w (v ∷ ws) = ap (λ l. w ++ 32 ∷ l) (spaced-first v ws)
 
--- after whole lines no line has begun
-pub begun_after : (w : Written) (ls : List (List (List ℕ))) → (with_lines w ls).begun ≡ false
-unfolding with_lines
-begun_after w ls = refl
+words_inside : (t : List ℕ) (ws : Words) → fold with_word (inside t) ws ≡ inside (t ++ each_after ws)
+unfolding with_word
+words_inside t [] = ap inside (sym (append-nil t))
+words_inside t (w ∷ ws) = words_inside (t ++ 32 ∷ w) ws ∙ ap inside (append_assoc t (32 ∷ w) (each_after ws))
 
-pub ended-append : (xs ys : List (List ℕ)) → ended (xs ++ ys) ≡ ended xs ++ ended ys
-ended-append [] ys = refl
-ended-append (x ∷ xs) ys = ap (λ l. x ++ 10 ∷ l) (ended-append xs ys) ∙ sym (append_assoc x (10 ∷ ended xs) (ended ys))
+line_is : (t : List ℕ) (ws : Words) → with_line (before t) ws ≡ before (t ++ (spaced ws ++ 10 ∷ []))
+unfolding with_word with_end
+line_is t [] = refl
+line_is t (w ∷ ws) =
+    ap with_end (words_inside (t ++ w) ws)
+    ∙ ap before (append_assoc (t ++ w) (each_after ws) (10 ∷ []) ∙ append_assoc t w (each_after ws ++ 10 ∷ []) ∙ ap (λ l. t ++ l) (sym (append_assoc w (each_after ws) (10 ∷ [])) ∙ ap (λ l. l ++ 10 ∷ []) (sym (spaced-first w ws))))
 
-pub bytes_of-append : (xs ys : List (List (List ℕ))) → bytes_of (xs ++ ys) ≡ bytes_of xs ++ bytes_of ys
-bytes_of-append xs ys = ap ended (map-append spaced xs ys) ∙ ended-append (map spaced xs) (map spaced ys)
-
--- lines, and then more of them
-pub lines_then : (w : Written) (xs ys : List (List (List ℕ))) → with_lines (with_lines w xs) ys ≡ with_lines w (xs ++ ys)
-unfolding with_lines
-lines_then w xs ys = ap (λ (t : List ℕ). let made : Written = record { text = t; begun = false } in made) (append_assoc w.text (bytes_of xs) (bytes_of ys) ∙ ap (λ b. w.text ++ b) (sym (bytes_of-append xs ys)))
-
--- what two writers append, one after the other
-pub lines_after : (w a b : Written) (xs ys : List (List (List ℕ))) → a ≡ with_lines w xs → b ≡ with_lines a ys → b ≡ with_lines w (xs ++ ys)
-lines_after w a b xs ys first second = second ∙ ap (λ v. with_lines v ys) first ∙ lines_then w xs ys
-
--- no lines are appended
-pub no_lines : (w : Written) → w.begun ≡ false → with_lines w [] ≡ w
-unfolding with_lines
-no_lines w e =
-    let made : List ℕ → Bool → Written = λ t b. record { text = t; begun = b } in
-    ap (λ t. made t false) (append-nil w.text) ∙ ap (λ b. made w.text b) (sym e)
+lines_are : (t : List ℕ) (ls : List Words) → with_lines (before t) ls ≡ before (t ++ bytes_of ls)
+lines_are t [] = ap before (sym (append-nil t))
+lines_are t (l ∷ ls) =
+    ap (λ w. with_lines w ls) (line_is t l) ∙ lines_are (t ++ (spaced l ++ 10 ∷ [])) ls
+    ∙ ap before (append_assoc t (spaced l ++ 10 ∷ []) (bytes_of ls) ∙ ap (λ r. t ++ r) (append_assoc (spaced l) (10 ∷ []) (bytes_of ls)))
 
 -- the bytes of a text of lines
-pub text_of_lines : (ls : List (List (List ℕ))) → (with_lines nothing_written ls).text ≡ bytes_of ls
-unfolding with_lines
-text_of_lines ls = refl
-
--- the lemmas that a writer of lines needs
-pub ruleset writing = (line_of_one, line_of_two, line_of_three, line_of_four, begun_after, lines_then, no_lines)
+pub text_of_lines : (w : Written) (ls : List Words) → w ≡ with_lines nothing_written ls → w.text ≡ bytes_of ls
+text_of_lines w ls e = ap (λ (v : Written). v.text) (e ∙ lines_are [] ls)

@@ -1,9 +1,10 @@
 //! A text that grows word by word and line by line, in one list of bytes. Contracts see its bytes and
-//! whether its last line has begun; `with_lines` says what a writer of whole lines appends. A call that
-//! runs out of memory leaves the text as it was.
-ghost use Rattle.std.specs.Prelude.{◌≡◌, decimal, OnOk, OnErr};
+//! whether its last line has begun; `with_lines` says what a writer of whole lines appends, and what it
+//! says is what its calls say one after another. A call that runs out of memory leaves the text as it was.
+ghost use Rattle.std.specs.Prelude.{◌≡◌, List, map, decimal, OnOk, OnErr};
 ghost use Rattle.sig_lines.specs.Hex.{hex, number_of_words};
-ghost use Rattle.sig_lines.specs.Written.{nothing_written, with_word, with_end};
+ghost use Rattle.sig_lines.specs.Pieces.{Words, number_words, bytes_of};
+ghost use Rattle.sig_lines.specs.Written.{nothing_written, with_word, with_end, with_line, with_lines};
 
 use crate::hex::hex_word;
 use itoa::Buffer;
@@ -73,8 +74,7 @@ impl Lines {
         ensures ok { OnOk result (self.new ≡ with_word self.old (hex (number_of_words bits.now))) }
         ensures err { OnErr result (self.new ≡ self.old) }
     {
-        let word = hex_word(*self.text.allocator(), bits)?;
-        self.append(word.as_slice())
+        self.append(hex_word(bits).as_slice())
     }
 
     /// Ends the line.
@@ -88,9 +88,30 @@ impl Lines {
         Ok(())
     }
 
+    /// Writes a line of these words. Where memory runs out, the first of them may be written.
+    pub fn line(&mut self, words: &[&str]) -> Result<(), AllocError>
+        ensures { OnOk result (self.new ≡ with_line self.old (map (λ word. word.now) words.now)) }
+    {
+        for word in words {
+            self.word(*word)?;
+        }
+        self.end_line()
+    }
+
+    /// Writes a line of a key and a number. Where memory runs out, the key may be written.
+    pub fn number_line(&mut self, key: &str, n: u64) -> Result<(), AllocError>
+        ensures { OnOk result (self.new ≡ with_line self.old (number_words key.now n)) }
+    {
+        self.word(key)?;
+        self.number(n)?;
+        self.end_line()
+    }
+
     /// The bytes. Takes no memory.
     pub fn into_bytes(self) -> Vec<u8>
-        ensures { result.items ≡ self.text }
+        ensures bytes { result.items ≡ self.text }
+        // Of lines that were written from the start on, the bytes of these lines.
+        ensures lines { (lines : List Words) → self ≡ with_lines nothing_written lines → result.items ≡ bytes_of lines }
     {
         let Lines { text, begun: _ } = self;
         text

@@ -1,22 +1,15 @@
 -- The matrix text: what it says, line by line, each line a list of words.
 use Rattle.std.specs.Prelude.{ℕ, nat_eq, Bool, cond, codes, decimal, List, [], ◌∷◌, ◌++◌, map, length, slice_index_or}
-use Rattle.sig_lines.specs.Pieces.{bytes_of}
+use Rattle.sig_lines.specs.Pieces.{Words, number_words, test_words, bytes_of}
+use Rattle.sig_lines.specs.declared.labels.TestLabel.{TestLabel}
 use Rattle.seq_theory.specs.Problem.{count_up}
 use Rattle.seq_theory.specs.States.{row}
 use Rattle.sig_matrix.specs.declared.matrix.Matrix.{Matrix}
 use Rattle.sig_matrix.specs.Detection.{system_of, state_count, state_weight, state_label, no_label}
 
--- the words of one line
-abbrev pub Words : Type 0
-Words = List (List ℕ)
-
--- a key and a number
-abbrev pub number_words : List ℕ → ℕ → Words
-number_words key n = key ∷ decimal n ∷ []
-
--- a test: its number, its cost, its label
-abbrev pub test_words : Matrix → ℕ → Words
-test_words matrix t = codes "test" ∷ decimal t ∷ decimal (slice_index_or matrix.tests t no_label).cost ∷ (slice_index_or matrix.tests t no_label).label ∷ []
+-- a test's column: its cost and its label
+abbrev pub column : Matrix → ℕ → TestLabel
+column matrix t = slice_index_or matrix.tests t no_label
 
 -- `1` for a test that fails, else `0`
 abbrev pub outcome : Bool → ℕ
@@ -36,7 +29,7 @@ matrix_lines matrix mode =
     (codes "teams" ∷ codes "matrix" ∷ codes "1" ∷ [])
     ∷ (codes "mode" ∷ mode ∷ [])
     ∷ number_words (codes "tests") (length matrix.tests)
-    ∷ map (test_words matrix) (count_up 0 (length matrix.tests))
+    ∷ map (λ t. test_words t (column matrix t)) (count_up 0 (length matrix.tests))
     ++ number_words (codes "states") (state_count matrix)
     ∷ map (state_words matrix) (count_up 0 (state_count matrix))
     ++ (codes "end" ∷ [])

@@ -31,7 +31,7 @@ first-mode zero h = omega arith
 first-mode (suc k) h = absurd (false≢true (sym (ap (λ b. nat_eq b 1) (bit_at-pow_other 0 (suc k) (λ e. let no : ⊥ = omega arith in no))) ∙ h))
 
 -- lists of nodes with labels, and of links between them in the one mode, are those of a flat model
-lists-valid : (ns : List Node) (ls : List FlatLink) → length ns ≤ 4096 → length ls ≤ 32768
+pub lists-valid : (ns : List Node) (ls : List FlatLink) → length ns ≤ 4096 → length ls ≤ 32768
     → list_all (λ (n : Node). is_label n.path) ns ≡ true
     → list_all (λ (l : FlatLink). nat_lt l.from (length ns) && (nat_lt l.to (length ns) && nat_eq l.modes.0 1)) ls ≡ true
     → AreValid 1 (codes "normal" ∷ []) ns ls [] []

@@ -1,5 +1,5 @@
 -- Lists of words joined in front of lists.
-use Rattle.std.proofs.Common.{◌≡◌, ℕ, Bool, true, false, List, [], ◌∷◌, ◌++◌, Option, Some, None, refl, sym, ap, append_assoc}
+use Rattle.std.proofs.Common.{◌≡◌, ℕ, Bool, true, false, List, ◌∷◌, Option, Some, None, refl, ap, append_assoc}
 use Rattle.teams_words.specs.Words.{Parts, joined, with_parts, no_parts}
 use Rattle.teams_words.specs.declared.parts.Reader.{Reader}
 use Rattle.teams_words.specs.Read.{Reads, whole}

@@ -1,13 +1,12 @@
 -- The plan by what clap found, and what holds of each plan.
-use Rattle.std.proofs.Common.{◌≡◌, ◌∙◌, ℕ, ◌≤◌, Bool, true, false, List, [], ◌∷◌, length, Option, Some, None, is_some, refl, ap, sym, codes, arith}
-use Rattle.std.specs.Prelude.{◌&&◌, nat_le, not, unwrap_or, IsSome}
+use Rattle.std.proofs.Common.{◌≡◌, ◌∙◌, ℕ, ◌≤◌, true, List, Option, Some, None, is_some, refl, ap, sym, codes, arith}
+use Rattle.std.specs.Prelude.{◌&&◌, nat_le, unwrap_or, IsSome}
 use Rattle.std.proofs.lemmas.Bool.{and_parts, leb-true, false≢true}
 use Rattle.clap.specs.Words.{first_value}
 use Rattle.clap.specs.declared.parser.matches.Found.{Found}
-use Rattle.teams_words.specs.declared.plan.Plan.{Plan}
 use Rattle.teams_words.specs.declared.plan.Action.{Action}
 use Rattle.teams_words.specs.declared.plan.Action.TheVariants.{Solve, Check, Matrix, Figures, Sample}
-use Rattle.teams_words.specs.Plans.{Chosen, IsProper, IsLimit, takes, plan_with, is_count, is_number, count_or, value_of, most_workers, most_groups, most_parts, usual_workers, usual_groups}
+use Rattle.teams_words.specs.Plans.{Chosen, IsProper, takes, plan_with, is_count, is_number, count_or, value_of, most_workers, most_groups, most_parts, usual_workers, usual_groups}
 use Rattle.teams_words.specs.Read.{Finds}
 
 the_word : (a b : List ℕ) → ◌≡◌ {A = Option (List ℕ)} (Some a) (Some b) → a ≡ b

@@ -1,11 +1,10 @@
 -- clap takes words that have the form of a command line, and finds in them what they choose. The words are followed one by
 -- one beside clap's walk: the rows that the walk has hold what was read, and the lists of the words that are left hold the
 -- rest.
-use Rattle.std.proofs.Common.{◌≡◌, inl, inr, ◌⊎◌, ◌∙◌, ℕ, Bool, true, false, ◌||◌, List, [], ◌∷◌, ◌++◌, length, take, drop, Option, Some, None, is_some, refl, ap, sym, codes, arith}
-use Rattle.std.specs.Prelude.{fold, if◌then◌else◌, unwrap_or, cond, ◌&&◌, nat_le, option_and_then}
+use Rattle.std.proofs.Common.{◌≡◌, inl, inr, ◌⊎◌, ◌∙◌, ℕ, Bool, true, false, List, [], ◌∷◌, ◌++◌, drop, Option, Some, None, is_some, refl, ap, sym, codes, arith}
+use Rattle.std.specs.Prelude.{fold, if◌then◌else◌, unwrap_or, option_and_then}
 use Rattle.std.specs.Str.{bytes_eq}
 use Rattle.std.proofs.lemmas.Bool.{cases_Bool, false≢true, and_parts}
-use Rattle.std.proofs.lemmas.List.{take-append-drop}
 use Rattle.std.proofs.lemmas.Slice.Eq.{bytes_eq-Decides}
 use Rattle.clap.specs.Walk.{Row, Text, Walk, walked, has_row, first_of, with_default, walk_from, nothing_held}
 use Rattle.clap.specs.Words.{takes, matches_of, first_value, rows_of}

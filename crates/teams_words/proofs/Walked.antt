@@ -1,10 +1,8 @@
 -- What clap's walk does at each kind of word of a command line.
-use Rattle.std.proofs.Common.{◌≡◌, ◌∙◌, ℕ, Bool, true, false, not, List, [], ◌∷◌, ◌++◌, length, drop, take, append-nil, ◌||◌, Option, Some, None, refl, sym, ap, subst, codes, is_some, arith}
-use Rattle.std.specs.Prelude.{nat_eq, nat_lt, cond, unwrap_or, if◌then◌else◌}
+use Rattle.std.proofs.Common.{◌≡◌, ◌∙◌, ℕ, Bool, true, false, List, [], ◌∷◌, ◌++◌, append-nil, ◌||◌, Option, Some, None, refl, ap, codes, is_some, arith}
+use Rattle.std.specs.Prelude.{nat_eq, unwrap_or, if◌then◌else◌}
 use Rattle.std.specs.Str.{bytes_eq}
-use Rattle.std.proofs.lemmas.Bool.{and_parts}
 use Rattle.std.proofs.lemmas.Slice.Eq.{bytes_eq-Decides}
-use Rattle.std.proofs.lemmas.List.{take-append-drop}
 use Rattle.clap.specs.Lexer.{long_of, short_of}
 use Rattle.clap.specs.Walk.{Rule, Row, Text, Walk, Held, Waiting, idle, option, walked, settled_rows, used, reading_by, positional_held, takes_several, arg_by_index, arg_by_long, has_row, at_row, without, more_values, action_of, first_of, arg_by_id}
 use Rattle.clap.specs.Simple.{built, Shape, new_rule}

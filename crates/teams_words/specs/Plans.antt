@@ -1,5 +1,5 @@
 -- The plan of the words of a command line: tests on the lists that the words give, and a function of them.
-use Rattle.std.specs.Prelude.{◌≡◌, ℕ, ◌≤◌, ◌+◌, ◌-◌, ◌*◌, Bool, true, false, cond, ◌&&◌, not, nat_le, List, [], ◌∷◌, length, codes, Option, Some, None, is_some, IsSome, option_and_then}
+use Rattle.std.specs.Prelude.{◌≡◌, ℕ, ◌≤◌, ◌+◌, ◌-◌, ◌*◌, Bool, true, cond, ◌&&◌, not, nat_le, List, [], ◌∷◌, length, codes, Option, Some, None, is_some, IsSome, option_and_then}
 use Rattle.std.specs.List.{list_all}
 use Rattle.std.specs.Str.{bytes_eq}
 use Rattle.std.specs.Char.{is_ascii_digit}

@@ -19,4 +19,4 @@ pub returns-clause-right : goal.returns-clause-right
 returns-clause-right c =
     let told = (c.fetch_min-found.ensures.2 c.args.place c.up_word.ensures).2 in
     let place = c.args.place in
-    subst (λ (x : Sitting). IsUpAt place x.view c.min.result) c.seat.view_is (subst (λ (n : ℕ). IsUpAt place c.seat.inside.seat.me.0 n) (sym c.min.ensures) told)
+    subst (λ (x : Sitting). IsUpAt place x.view c.min.result) c.seat.view_is (subst (λ (n : ℕ). IsUpAt place c.seat.inside.seat.me.0 n) (sym c.min.ensures) told) c.requires.may.whole

@@ -19,4 +19,4 @@ pub returns-clause-right : goal.returns-clause-right
 returns-clause-right c =
     let told = (c.fetch_max-found.ensures.2 c.args.place c.low_word.ensures).2 in
     let place = c.args.place in
-    subst (λ (x : Sitting). IsLowAt place x.view c.max.result) c.seat.view_is (subst (λ (n : ℕ). IsLowAt place c.seat.inside.seat.me.0 n) (sym c.max.ensures) told)
+    subst (λ (x : Sitting). IsLowAt place x.view c.max.result) c.seat.view_is (subst (λ (n : ℕ). IsLowAt place c.seat.inside.seat.me.0 n) (sym c.max.ensures) told) c.requires.may.whole

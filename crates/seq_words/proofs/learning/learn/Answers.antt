@@ -7,8 +7,8 @@ use Rattle.seq_words.proofs.learning.learn.Goals as goal
 pub returns-clause-of : goal.returns-clause-of
 returns-clause-of c = subst (IsOf c.args.words.now) (sym c.learn_to.ensures.learns) (of_learnt c.args.words.now c.args.seat c.args.scribe.now c.requires.seat)
 
-pub returns-clause-kept : goal.returns-clause-kept
-returns-clause-kept c =
+pub returns-clause-covers : goal.returns-clause-covers
+returns-clause-covers c =
     let sizes = c.requires.seat.sized ∙ sym c.requires.scribe.sized in
     subst (λ (x : Sitting). Covers x.view c.args.seat.view) (sym c.learn_to.ensures.learns) (learnt_kept c.args.seat.view c.args.scribe.now.view sizes c.learn_to.ensures.agree)
 

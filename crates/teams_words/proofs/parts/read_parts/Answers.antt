@@ -1,6 +1,5 @@
-use Rattle.std.proofs.Common.{◌≡◌, ◌∙◌, ◌+◌, ◌<◌, ◌∷◌, length, map, drop, string_bytes, sym, ap, None, arith}
+use Rattle.std.proofs.Common.{◌≡◌, ◌∙◌, ◌+◌, ◌<◌, ◌∷◌, length, map, drop, string_bytes, sym, ap, arith}
 use Rattle.std.proofs.lemmas.List.{drop_more}
-use Rattle.teams_words.specs.Words.{parts_in}
 use Rattle.teams_words.specs.Read.{whole}
 use Rattle.teams_words.proofs.Joined.{with_none, refused_by}
 use Rattle.teams_words.proofs.parts.read_parts.Goals as goal

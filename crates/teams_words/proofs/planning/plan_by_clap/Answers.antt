@@ -1,10 +1,9 @@
-use Rattle.std.proofs.Common.{◌≡◌, ◌∙◌, ℕ, List, ap, sym, Some, map, string_bytes, codes, Bor}
+use Rattle.std.proofs.Common.{◌∙◌, ℕ, List, ap, sym, map, string_bytes, Bor}
 use Rattle.std.proofs.lemmas.Result.{IfOk-weaker}
 use Rattle.std.specs.Prelude.{option_and_then, option_map}
 use Rattle.clap.specs.Words.{found_of}
 use Rattle.teams_words.specs.Plans.{plan_for, chosen_in, Chosen as Choice}
 use Rattle.teams_words.specs.Read.{choice}
-use Rattle.teams_words.specs.declared.planning.Chosen.{Chosen}
 use Rattle.teams_words.proofs.Planned.{same_choice}
 use Rattle.teams_words.proofs.planning.plan_by_clap.Goals as goal
 

@@ -1,7 +1,6 @@
-use Rattle.std.proofs.Common.{rules, ◌≡◌, true, false, sym}
+use Rattle.std.proofs.Common.{rules, ◌≡◌, true}
 use Rattle.std.proofs.lemmas.Result.{IfOk-weaker}
-use Rattle.std.specs.Prelude.{option_map}
-use Rattle.teams_words.specs.Plans.{IsProper, takes, is_count, most_workers, most_groups}
+use Rattle.teams_words.specs.Plans.{takes, is_count, most_workers, most_groups}
 use Rattle.teams_words.specs.Read.{choice}
 use Rattle.teams_words.proofs.Planned.{is_proper}
 use Rattle.teams_words.proofs.planning.plan_for.Goals as goal
