@@ -24,5 +24,6 @@ pub mod StatesLaws
 pub mod NumberingLaws
 pub mod PassageProofs
 pub mod BelowLaws
+pub mod ByNumberLaws
 pub mod ShapeLaws
 pub mod RecursionProofs
