@@ -26,4 +26,6 @@ pub mod PassageProofs
 pub mod BelowLaws
 pub mod ByNumberLaws
 pub mod ShapeLaws
+pub mod CountedLaws
+pub mod GreedyParts
 pub mod RecursionProofs
