@@ -24,6 +24,7 @@ pub mod StatesLaws
 pub mod NumberingLaws
 pub mod PassageProofs
 pub mod BelowLaws
+pub mod ByNumberLaws
 pub mod ShapeLaws
 pub mod CountedLaws
 pub mod GreedyParts

@@ -25,10 +25,9 @@ use Rattle.sig_flat.specs.declared.flat.Fault.{Fault}
 use Rattle.sig_flat.specs.declared.flat.FlatTest.{FlatTest}
 use Rattle.sig_matrix.specs.declared.matrix.Matrix.{Matrix}
 use Rattle.sig_matrix.specs.declared.matrix.FaultRow.{FaultRow}
-use Rattle.sig_matrix.specs.Detection.{IsRowOf, IsLabelOf, before_faults, state_count, is_taken, taken, no_row}
+use Rattle.sig_matrix.specs.Detection.{IsRowOf, IsLabelOf, before_faults, state_count, is_taken, taken, no_row, state_name}
 use Rattle.sig_matrix.specs.Valid.{IsValid}
 use Rattle.sig_classes.specs.Labels.{labels_from, state_label}
-use Rattle.sig_classes.specs.States.{state_name}
 use Rattle.seq_cert.specs.LineForms.{is_mode}
 use Rattle.seq_shown.specs.Laws.{ArePrintable}
 use Rattle.teams_run.specs.Accepted.{IsMatrixOfText, model_of, mode_number, mode_refusals, text_refusals}
