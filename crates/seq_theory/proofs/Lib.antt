@@ -27,4 +27,5 @@ pub mod BelowLaws
 pub mod ShapeLaws
 pub mod CountedLaws
 pub mod GreedyParts
+pub mod StratParts
 pub mod RecursionProofs
