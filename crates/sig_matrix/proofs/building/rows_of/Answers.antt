@@ -1,12 +1,18 @@
-use Rattle.std.proofs.Common.{List, Vec, Global, ◌≡◌, ◌<◌, ◌+◌, ℕ, length, get_or, map, sym, ap, ◌∙◌, subst, arith}
+use Rattle.std.proofs.Common.{List, Vec, Global, ◌≡◌, ◌<◌, ◌+◌, ℕ, length, get_or, map, replicate, rules, sym, ap, ◌∙◌, subst, arith}
+use Rattle.std.proofs.lemmas.Grind.{common_steps}
 use Rattle.std.proofs.lemmas.List.{length-map}
 use Rattle.std.proofs.lemmas.List.Elements.{All-get_or, Contains-get_or}
 use Rattle.sig_flat.specs.declared.flat.FlatTest.{FlatTest}
 use Rattle.sig_matrix.specs.Detection.{test_at, no_test}
 use Rattle.sig_matrix.specs.Filling.{AreRows, is_before}
-use Rattle.sig_matrix.proofs.FillingLaws.{rows-whole, mode-unused, test_at-map, whole_rows}
+use Rattle.sig_matrix.proofs.FillingLaws.{rows-none, rows-whole, mode-unused, test_at-map, whole_rows}
 use Rattle.sig_matrix.proofs.building.rows_of.Goals as goal
-use Rattle.sig_matrix.proofs.building.rows_of.Goals.{then-is_used+in_ok-reach, else-is_used}
+use Rattle.sig_matrix.proofs.building.rows_of.Goals.{then-is_used+in_ok-wanted+in_ok-reach, else-is_used}
+
+pub loop-mode-init : goal.loop-mode-init
+loop-mode-init c =
+    let empty : c.in_ok-rows.rows.items ≡ replicate (length c.args.flat.now.faults) (replicate {A = ℕ} 4 0) = grind (arith, common_steps) in
+    rows-none c.args.flat.now (map (test_at c.args.flat.now.tests) c.args.numbers.now) c.in_ok-rows.rows.items empty
 
 pub loop-mode-preserved : goal.loop-mode-preserved
 loop-mode-preserved c =
@@ -16,7 +22,7 @@ loop-mode-preserved c =
     let mode = c.loop-mode.mode in
     let many = length-map numbers (test_at flat.tests) in
     elim c.if-is_used.branch [
-      | then-is_used+in_ok-reach w ↦
+      | then-is_used+in_ok-wanted+in_ok-reach w ↦
           (let new = w.add_mode.new.rows in
           let lent = ap length w.as_mut_slice.ensures.value in
           let long : length new ≡ c.loop-mode.rows.len = omega arith in
