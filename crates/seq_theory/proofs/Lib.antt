@@ -28,4 +28,5 @@ pub mod ByNumberLaws
 pub mod ShapeLaws
 pub mod CountedLaws
 pub mod GreedyParts
+pub mod StratParts
 pub mod RecursionProofs
