@@ -4,7 +4,7 @@ ghost use Rattle.std.specs.Prelude.{◌≡◌, ◌≢◌, ◌≤◌, ◌<◌, �
 ghost use Rattle.seq_words.specs.Layout.{bits_at, state_at};
 ghost use Rattle.seq_words.specs.Knowledge.{HasGroup, Covers, known, unknown};
 ghost use Rattle.seq_words.specs.Plays.{begins, writes, publishes, published};
-ghost use Rattle.seq_words.specs.Seats.{IsOf, MayPublish, sees};
+ghost use Rattle.seq_words.specs.Seats.{IsOf, HasPlaces, MayPublish, sees};
 ghost use Rattle.seq_words.specs.declared.view.Role.TheVariants.{Scribe as Scribes};
 
 use crate::layout::{bits_word, state_word};
@@ -13,13 +13,8 @@ use crate::rule::Bounds;
 use crate::view::{Terms, View};
 use crate::words::{Scribe, Words};
 use atomic_table::{Seat, Shared};
-use seq_inst::Group;
+use seq_inst::{Group, group_stands};
 use std::marker::Brand;
-
-/// That a group is eight words is known of the type. This brings it to proofs, and does nothing.
-fn know_eight(words: &[u64; 8])
-    ensures { length words.now ≡ 8 }
-{}
 
 /// Stores the first word of bits.
 fn begin<D: Drafting>(
@@ -30,10 +25,10 @@ fn begin<D: Drafting>(
 )
     requires group { group.now.0 ≡ D.group }
     requires table { (seat.old.table_id ≡ table.now.table_id) × (bits_at place 0 < table.now.table_id.words) }
-    requires may { MayPublish seat.old.me.0 place group.now }
+    requires may { MayPublish seat.old.me.0 place group.now × (seat.old.me.0.stored ≡ 0) }
     ensures { (seat.new.table_id ≡ seat.old.table_id) × (seat.new.me ≡ (begins group.now.0 seat.old.me.0, seat.old.me.1)) }
 {
-    know_eight(&group.0);
+    group_stands(group);
     table.store::<Begin<D>>(seat, bits_word(place, 0), group.0[0]);
 }
 
@@ -73,7 +68,7 @@ fn write_group(
     group: &Group,
 )
     requires table { (seat.old.table_id ≡ table.now.table_id) × (state_at place < table.now.table_id.words) }
-    requires may { MayPublish seat.old.me.0 place group.now }
+    requires may { MayPublish seat.old.me.0 place group.now × (seat.old.me.0.stored ≡ 0) }
     ensures fresh { known seat.old.me.0 place ≡ unknown }
     ensures learns { (seat.new.table_id ≡ seat.old.table_id) × (seat.new.me ≡ (published place group.now.0 seat.old.me.0, seat.old.me.1)) }
 {
@@ -90,11 +85,12 @@ pub fn publish(words: &Words, scribe: &mut Scribe, place: u32, group: &Group)
     requires scribe { IsOf words.now scribe.old }
     requires may { MayPublish scribe.old.view place group.now }
     ensures of { IsOf words.now scribe.new }
+    ensures count { HasPlaces (place + 1) scribe.new.view }
     ensures knows { HasGroup place group.now.0 scribe.new.view }
     ensures covers { Covers scribe.new.view scribe.old.view }
     ensures others { (other : ℕ) → other ≢ place → known scribe.new.view other ≡ known scribe.old.view other }
     ensures learns { scribe.new ≡ sees scribe.old (published place group.now.0 scribe.old.view) }
 {
-    know_eight(&group.0);
+    group_stands(group);
     write_group(&words.table.shared, &mut scribe.seat, place, group);
 }

@@ -1,5 +1,5 @@
 -- The counts of the unfolded model are the sizes and the height of the top block.
-use Rattle.std.proofs.Common.{◌≡◌, ℕ, zero, suc, ◌+◌, ◌-◌, ◌<◌, ◌≤◌, List, [], ◌∷◌, ◌++◌, length, refl, sym, ap, ◌∙◌, arith, length-append, Bool, true, false, lit≤, inl, inr}
+use Rattle.std.proofs.Common.{◌≡◌, ℕ, zero, suc, ◌+◌, ◌<◌, ◌≤◌, List, [], ◌∷◌, ◌++◌, length, refl, sym, ap, ◌∙◌, arith, length-append, Bool, true, false, lit≤, inl, inr}
 use Rattle.std.specs.Prelude.{cond, map, nat_lt, nat_eq, ◌&&◌, Option, Some, None}
 use Rattle.std.specs.List.{flat_map}
 use Rattle.std.proofs.lemmas.List.{length-map}
@@ -17,7 +17,7 @@ use Rattle.sig_types.specs.declared.refusals.Counted.TheVariants.{Depth, Uses, N
 use Rattle.sig_flat.specs.declared.counts.Counts.{Counts}
 use Rattle.sig_flat.specs.Instances.{Path, Instance, TestItem, instances, instances_at, own_nodes, own_links, own_faults, own_tests, nodes, links, faults, tests, depth, uses, functional_fault, general_fault, greatest, end_path}
 use Rattle.sig_flat.specs.Counts.{limited, first_over, has_no_state, refusal_after, flat_refusal}
-use Rattle.sig_flat.specs.Limits.{limits_of}
+use Rattle.sig_flat.specs.Counting.{limits_of}
 use Rattle.sig_flat.specs.Layouts.{numbers_of_block}
 use Rattle.sig_flat.specs.Sizes.{size, in_word, height, height_down}
 use Rattle.sig_flat.specs.Resolved.{block_at}
@@ -127,16 +127,10 @@ over limit n le = elim (cases_lt limit n) [
   | inr ge ↦ (let h : in_word n ≤ limit = omega arith in le-ltb limit (in_word n) h ∙ sym (le-ltb limit n ge))
 ]
 
-over-less : (limit n : ℕ) → limit ≤ 32768 → nat_lt limit (in_word (n + 1) - 1) ≡ nat_lt limit n
-over-less limit n le = elim (cases_lt limit n) [
-  | inl lt ↦ (let h : limit < in_word (n + 1) - 1 = omega arith in lt-ltb limit (in_word (n + 1) - 1) h ∙ sym (lt-ltb limit n lt))
-  | inr ge ↦ (let h : in_word (n + 1) - 1 ≤ limit = omega arith in le-ltb limit (in_word (n + 1) - 1) h ∙ sym (le-ltb limit n ge))
-]
-
 pub same-over : (model : Model) (counts : Counts) → CountsAre model counts → first_over (limits_of counts) ≡ first_over (limited model)
 same-over model counts c =
     let a : nat_lt 16 counts.depth ≡ nat_lt 16 (depth model) = ap (nat_lt 16) c.depth ∙ over 16 (depth model) (lit≤ tt) in
-    let b : nat_lt 4096 counts.uses ≡ nat_lt 4096 (uses model) = ap (nat_lt 4096) c.uses ∙ over-less 4096 (uses model) (lit≤ tt) in
+    let b : nat_lt 4096 counts.uses ≡ nat_lt 4096 (uses model) = ap (nat_lt 4096) c.uses ∙ over 4096 (uses model) (lit≤ tt) in
     let d : nat_lt 4096 counts.nodes ≡ nat_lt 4096 (length (nodes model)) = ap (nat_lt 4096) c.nodes ∙ over 4096 (length (nodes model)) (lit≤ tt) in
     let e : nat_lt 32768 counts.links ≡ nat_lt 32768 (length (links model)) = ap (nat_lt 32768) c.links ∙ over 32768 (length (links model)) (lit≤ tt) in
     let f : nat_lt 4096 counts.faults ≡ nat_lt 4096 (length (faults model)) = ap (nat_lt 4096) c.faults ∙ over 4096 (length (faults model)) (lit≤ tt) in

@@ -1,8 +1,6 @@
 -- Heights from the heights of earlier blocks.
-use Rattle.std.proofs.Common.{◌≡◌, ℕ, zero, suc, ◌+◌, ◌-◌, ◌<◌, max, List, [], ◌∷◌, ◌++◌, length, get_or, refl, ap, ◌∙◌, arith, inl, inr}
+use Rattle.std.proofs.Common.{◌≡◌, ℕ, zero, suc, ◌+◌, ◌<◌, max, List, [], ◌∷◌, ◌++◌, get_or, refl, ap, ◌∙◌, arith}
 use Rattle.std.specs.List.{Contains}
-use Rattle.std.proofs.lemmas.Bool.{cases_lt}
-use Rattle.std.proofs.lemmas.List.{get_or_append_left, get_or-append_right}
 use Rattle.std.specs.Ordering.{ord_max, nat_cmp}
 use Rattle.std.proofs.lemmas.Bool.Decides.{nat_tests}
 use Rattle.sig_flat.specs.Sizes.{greatest_over, height_down, height, UseEarlier, in_word}
@@ -38,21 +36,12 @@ height_down-same uses earlier (suc n) (suc m) block ln lm =
     (λ used i. let e = earlier block used i in height_down-same uses earlier n m used (omega arith) (omega arith))
 
 -- the next height, from the heights so far
-pub height-next : (uses : List (List ℕ)) (heights : List ℕ) (block : ℕ) → UseEarlier uses → ((b : ℕ) → b < block → get_or heights b 0 ≡ in_word (height uses b)) → in_word (greatest_over (λ used. 1 + get_or heights used 0) (get_or uses block [])) ≡ in_word (height uses block)
+pub height-next : (uses : List (List ℕ)) (heights : ℕ → ℕ) (block : ℕ) → UseEarlier uses → ((b : ℕ) → b < block → heights b ≡ in_word (height uses b)) → in_word (greatest_over (λ used. 1 + heights used) (get_or uses block [])) ≡ in_word (height uses block)
 unfolding height
 height-next uses heights block earlier h =
-    greatest_over-in_word (λ used. get_or heights used 0) (λ used. height_down uses (suc used) used) (get_or uses block []) (λ used i. h used (earlier block used i))
+    greatest_over-in_word heights (λ used. height_down uses (suc used) used) (get_or uses block []) (λ used i. h used (earlier block used i))
     ∙ ap in_word (greatest_over-same (λ used. height_down uses (suc used) used) (height_down uses block) (get_or uses block [])
     (λ used i. let e = earlier block used i in height_down-same uses earlier (suc used) block used (omega arith) e))
-
-pub heights-more : (uses : List (List ℕ)) (heights heights' : List ℕ) (here block : ℕ) → heights' ≡ heights ++ here ∷ [] → length heights ≡ block → here ≡ in_word (height uses block) → ((b : ℕ) → b < block → get_or heights b 0 ≡ in_word (height uses b)) → (b : ℕ) → b < block + 1 → get_or heights' b 0 ≡ in_word (height uses b)
-heights-more uses heights heights' here block e long h old b lt = elim (cases_lt b block) [
-  | inl below ↦ ap (λ l. get_or l b 0) e ∙ get_or_append_left heights (here ∷ []) 0 b (omega arith) ∙ old b below
-  | inr ge ↦
-      (let at : block ≡ b = omega arith in
-      let zero_in : b - block ≡ 0 = omega arith in
-      ap (λ l. get_or l b 0) e ∙ get_or-append_right heights (here ∷ []) block b 0 long (omega arith) ∙ ap (λ k. get_or (here ∷ []) k 0) zero_in ∙ h ∙ ap (λ k. in_word (height uses k)) at)
-]
 
 pub ord_max-is : (a b : ℕ) → ord_max nat_cmp a b ≡ max a b
 ord_max-is a b = grind (arith, nat_tests)

@@ -4,6 +4,7 @@ use Rattle.std.specs.List.{Contains}
 use Rattle.sig_types.specs.NameText.{is_name}
 use Rattle.sig_types.specs.LabelText.{is_label}
 use Rattle.sig_types.specs.Sets.{has_bit}
+use Rattle.sig_flat.specs.Limits.{max_nodes, max_links, max_faults, max_tests}
 use Rattle.sig_flat.specs.declared.flat.Node.{Node}
 use Rattle.sig_flat.specs.declared.flat.FlatLink.{FlatLink}
 use Rattle.sig_flat.specs.declared.flat.Fault.{Fault}
@@ -13,10 +14,10 @@ use Rattle.sig_flat.specs.declared.flat.FlatTest.{FlatTest}
 -- ranges, there is a state, modes have names, and nodes, faults and tests have labels
 pub record AreValid (g : ℕ) (ms : List (List ℕ)) (ns : List Node) (ls : List FlatLink) (fs : List Fault) (ts : List FlatTest) : Type 0 where
   pub modes : (1 ≤ length ms) × (length ms ≤ 32)
-  pub nodes : length ns ≤ 4096
-  pub links : length ls ≤ 32768
-  pub faults : length fs ≤ 4096
-  pub tests : length ts ≤ 256
+  pub nodes : length ns ≤ max_nodes
+  pub links : length ls ≤ max_links
+  pub faults : length fs ≤ max_faults
+  pub tests : length ts ≤ max_tests
   pub good : g ≤ 1000000
   pub link_ends : (link : FlatLink) → Contains ls link → (link.from < length ns) × (link.to < length ns)
   pub link_modes : (link : FlatLink) → Contains ls link → (mode : ℕ) → has_bit link.modes.0 mode ≡ true → mode < length ms

@@ -1,15 +1,21 @@
--- The counts of the code with their limits.
-use Rattle.std.specs.Prelude.{List, [], ◌∷◌}
-use Rattle.sig_types.specs.declared.refusals.Counted.TheVariants.{Depth, Uses, Nodes, Links, Faults, Tests}
-use Rattle.sig_flat.specs.declared.counts.Counts.{Counts}
-use Rattle.sig_flat.specs.Counts.{Limited}
+-- The limits of a flat model.
+use Rattle.std.specs.Prelude.{ℕ}
 
-abbrev pub limits_of : Counts → List Limited
-limits_of counts =
-    record { counted = Depth; count = counts.depth; limit = 16 }
-    ∷ record { counted = Uses; count = counts.uses; limit = 4096 }
-    ∷ record { counted = Nodes; count = counts.nodes; limit = 4096 }
-    ∷ record { counted = Links; count = counts.links; limit = 32768 }
-    ∷ record { counted = Faults; count = counts.faults; limit = 4096 }
-    ∷ record { counted = Tests; count = counts.tests; limit = 256 }
-    ∷ []
+-- how many uses may stand one in another
+abbrev pub max_depth : ℕ
+max_depth = 16
+
+abbrev pub max_uses : ℕ
+max_uses = 4096
+
+abbrev pub max_nodes : ℕ
+max_nodes = 4096
+
+abbrev pub max_links : ℕ
+max_links = 32768
+
+abbrev pub max_faults : ℕ
+max_faults = 4096
+
+abbrev pub max_tests : ℕ
+max_tests = 256

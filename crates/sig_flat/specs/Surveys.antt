@@ -1,5 +1,5 @@
 -- What is found out about a model before it is unfolded.
-use Rattle.std.specs.Prelude.{◌≡◌, ℕ, ◌+◌, ◌-◌, ◌<◌, List, [], map, length, slice_index, slice_index_or}
+use Rattle.std.specs.Prelude.{◌≡◌, ℕ, ◌-◌, ◌<◌, List, [], map, length, slice_index_or}
 use Rattle.std.specs.List.{AllZip, Contains, flat_map}
 use Rattle.sig_types.specs.declared.model.Model.{Model}
 use Rattle.sig_types.specs.declared.model.Block.{Block}
@@ -12,10 +12,11 @@ use Rattle.sig_flat.specs.Placed.{node_copies, link_copies, fault_copies, test_c
 use Rattle.sig_flat.specs.Flats.{IsNodeOf, IsLinkOf, IsFaultOf, IsTestOf}
 use Rattle.sig_flat.specs.declared.survey.Survey.{Survey}
 use Rattle.sig_flat.specs.Instances.{depth, uses, nodes, links, faults, tests}
-use Rattle.sig_flat.specs.Sizes.{in_word, size}
+use Rattle.sig_flat.specs.Sizes.{in_word, size, height}
+use Rattle.sig_flat.specs.Counting.{no_counts}
 use Rattle.sig_flat.specs.Places.{own_names}
 use Rattle.sig_flat.specs.Words.{place_among}
-use Rattle.sig_flat.specs.Patterns.{pattern_of}
+use Rattle.sig_flat.specs.Patterns.{pattern_of, fault_patterns, test_patterns}
 use Rattle.sig_flat.specs.declared.inner.Inner.{Inner}
 use Rattle.sig_flat.specs.Resolved.{block_at}
 use Rattle.sig_flat.specs.Known.{use_names}
@@ -34,18 +35,40 @@ top_of model = place_among (block_names model) model.top
 abbrev pub own_of : Model → List ℕ
 own_of model = map (λ (b : Block). length (own_names b)) model.blocks
 
+-- for each block how many of something it has of its own
+abbrev pub links_of_blocks : Model → List ℕ
+links_of_blocks model = map (λ (b : Block). length b.links) model.blocks
+
+abbrev pub faults_of_blocks : Model → List ℕ
+faults_of_blocks model = map (λ (b : Block). length (fault_patterns model.signals b)) model.blocks
+
+abbrev pub tests_of_blocks : Model → List ℕ
+tests_of_blocks model = map (λ (b : Block). length (test_patterns model.signals model.modes b)) model.blocks
+
+abbrev pub ones_of_blocks : Model → List ℕ
+ones_of_blocks model = map (λ (b : Block). 1) model.blocks
+
+-- how much an instance of this block has, each as far as a word goes; it is itself one of the instances
+pub record AreCounts (model : Model) (k : ℕ) (counts : Counts) : Type 0 where
+  pub depth : counts.depth ≡ in_word (height (numbers_of model) k)
+  pub uses : counts.uses ≡ in_word (size (ones_of_blocks model) (numbers_of model) k - 1)
+  pub nodes : counts.nodes ≡ in_word (size (own_of model) (numbers_of model) k)
+  pub links : counts.links ≡ in_word (size (links_of_blocks model) (numbers_of model) k)
+  pub faults : counts.faults ≡ in_word (size (faults_of_blocks model) (numbers_of model) k)
+  pub tests : counts.tests ≡ in_word (size (tests_of_blocks model) (numbers_of model) k)
+
 pub record IsSurvey (model : Model) (survey : Survey) : Type 0 where
   pub modes : survey.modes ≡ model.modes
   pub patterns : survey.patterns.items ≡ patterns_of_model model
   pub numbers : survey.numbers.items ≡ numbers_of model
-  pub sizes_long : length survey.sizes.items ≡ length model.blocks
-  pub sizes : (k : ℕ) → k < length model.blocks → slice_index survey.sizes.items k ≡ in_word (size (own_of model) (numbers_of model) k)
+  pub counts_long : length survey.counts.items ≡ length model.blocks
+  pub counts : (k : ℕ) → k < length model.blocks → AreCounts model k (slice_index_or survey.counts.items k no_counts)
   pub top : survey.top ≡ top_of model
 
 -- the counts of the definition, each as far as a word goes
 pub record CountsAre (model : Model) (counts : Counts) : Type 0 where
   pub depth : counts.depth ≡ in_word (depth model)
-  pub uses : counts.uses ≡ in_word (uses model + 1) - 1
+  pub uses : counts.uses ≡ in_word (uses model)
   pub nodes : counts.nodes ≡ in_word (length (nodes model))
   pub links : counts.links ≡ in_word (length (links model))
   pub faults : counts.faults ≡ in_word (length (faults model))

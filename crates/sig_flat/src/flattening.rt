@@ -5,7 +5,7 @@
 ghost use Rattle.std.specs.Prelude.{◌≡◌, ◌&&◌, ◌≤◌, true, nat_eq, length, None, IfOk, IfErr};
 ghost use Rattle.sig_types.specs.Breaches.{breaches};
 ghost use Rattle.sig_flat.specs.Counts.{first_over, refusal_after, flat_refusal};
-ghost use Rattle.sig_flat.specs.Limits.{limits_of};
+ghost use Rattle.sig_flat.specs.Counting.{limits_of};
 ghost use Rattle.sig_flat.specs.Flats.{IsFlatOf};
 ghost use Rattle.sig_flat.specs.Items.{AreItemsOf};
 ghost use Rattle.sig_flat.specs.Known.{IsKnown, AreNames};
@@ -104,7 +104,7 @@ fn surveyed(alloc: Global, model: &Model) -> Result<(Survey, Counts), AllocError
     ensures { IfOk result (λ s. IsSurvey model.now s.0 × CountsAre model.now s.1) }
 {
     let survey = survey_of(alloc, model)?;
-    let counts = counts_of(alloc, model, &survey)?;
+    let counts = counts_of(model, &survey);
     Ok((survey, counts))
 }
 

@@ -4,7 +4,9 @@
 ghost use Rattle.std.specs.Prelude.{◌≡◌, ℕ, ◌<◌, length, IfOk};
 ghost use Rattle.std.specs.List.{Contains};
 ghost use Rattle.sig_flat.specs.Layouts.{inners_from};
+ghost use Rattle.sig_flat.specs.Counting.{sizes_in};
 
+use crate::counts::Counts;
 use sig_types::{List, Name, Used};
 use std::alloc::{AllocError, Global};
 
@@ -22,11 +24,11 @@ pub fn inners_of(
     uses: &[Used],
     numbers: &[u32],
     own: u64,
-    sizes: &[u64],
+    counts: &[Counts],
 ) -> Result<List<Inner>, AllocError>
     requires long { length numbers.now ≡ length uses.now }
-    requires known { (n : ℕ) → Contains numbers.now n → n < length sizes.now }
-    ensures { IfOk result (λ inners. inners ≡ inners_from sizes.now own uses.now numbers.now) }
+    requires known { (n : ℕ) → Contains numbers.now n → n < length counts.now }
+    ensures { IfOk result (λ inners. inners ≡ inners_from (sizes_in counts.now) own uses.now numbers.now) }
 {
     let mut offset = own;
     let mut inners = List::new(alloc);
@@ -37,7 +39,7 @@ pub fn inners_of(
             block,
             offset,
         })?;
-        offset = offset.saturating_add(sizes[block as usize]);
+        offset = offset.saturating_add(counts[block as usize].nodes);
     }
     Ok(inners)
 }

@@ -8,7 +8,9 @@ ghost use Rattle.sig_flat.specs.Resolved.{block_at};
 ghost use Rattle.sig_flat.specs.Placed.{no_pattern};
 ghost use Rattle.sig_flat.specs.Known.{use_names};
 ghost use Rattle.sig_flat.specs.Layouts.{inners_from, link_pattern, LinkNamesUses};
+ghost use Rattle.sig_flat.specs.Counting.{sizes_in};
 
+use crate::counts::Counts;
 use crate::inner::{Inner, inners_of};
 use crate::links::{LinkPattern, links_of};
 use crate::numbers::use_names;
@@ -23,14 +25,14 @@ pub fn inners_of_blocks(
     blocks: &[Block],
     numbers: &[List<u32>],
     patterns: &[Pattern],
-    sizes: &[u64],
+    counts: &[Counts],
 ) -> Result<Vec<List<Inner>>, AllocError>
     requires patterns { length patterns.now ≡ length blocks.now }
     requires numbers { length numbers.now ≡ length blocks.now }
     requires uses { (k : ℕ) → k < length blocks.now → length (slice_index_or numbers.now k []) ≡ length (block_at blocks.now k).uses }
-    requires known { (k n : ℕ) → Contains (slice_index_or numbers.now k []) n → n < length sizes.now }
+    requires known { (k n : ℕ) → Contains (slice_index_or numbers.now k []) n → n < length counts.now }
     ensures long { IfOk result (λ inners. length inners.items ≡ length blocks.now) }
-    ensures inners { IfOk result (λ inners. (k : ℕ) → k < length blocks.now → slice_index_or inners.items k [] ≡ inners_from sizes.now (length (slice_index_or patterns.now k no_pattern).nodes) (block_at blocks.now k).uses (slice_index_or numbers.now k [])) }
+    ensures inners { IfOk result (λ inners. (k : ℕ) → k < length blocks.now → slice_index_or inners.items k [] ≡ inners_from (sizes_in counts.now) (length (slice_index_or patterns.now k no_pattern).nodes) (block_at blocks.now k).uses (slice_index_or numbers.now k [])) }
 {
     let mut inners = Vec::with_capacity(alloc, blocks.len())?;
     for k in 0..blocks.len() {
@@ -40,7 +42,7 @@ pub fn inners_of_blocks(
             blocks[k].uses.as_slice(),
             numbers[k].as_slice(),
             own,
-            sizes,
+            counts,
         )?;
         inners.push(inside)?;
     }

@@ -3,6 +3,7 @@
 ghost use Rattle.std.specs.Prelude.{◌≡◌, [], None, IfOk};
 ghost use Rattle.sig_flat.specs.Counts.{flat_refusal};
 ghost use Rattle.sig_flat.specs.Known.{IsKnown};
+ghost use Rattle.sig_flat.specs.Counting.{sizes_in};
 ghost use Rattle.sig_flat.specs.Placed.{placed_at, PrefixesShown};
 ghost use Rattle.sig_flat.specs.Surveys.{top_of, IsSurvey, AreInners, AreLinks, IsPlacing};
 
@@ -30,13 +31,13 @@ fn inners_of_model(
 ) -> Result<Vec<List<Inner>>, AllocError>
     requires known { IsKnown model.now }
     requires survey { IsSurvey model.now survey.now }
-    ensures { IfOk result (λ inners. AreInners model.now survey.now.sizes.items inners.items) }
+    ensures { IfOk result (λ inners. AreInners model.now (sizes_in survey.now.counts.items) inners.items) }
 {
     let blocks = model.blocks.as_slice();
     let numbers = survey.numbers.as_slice();
     let patterns = survey.patterns.as_slice();
-    let sizes = survey.sizes.as_slice();
-    let inners = inners_of_blocks(alloc, blocks, numbers, patterns, sizes)?;
+    let counts = survey.counts.as_slice();
+    let inners = inners_of_blocks(alloc, blocks, numbers, patterns, counts)?;
     Ok(inners)
 }
 
@@ -49,7 +50,7 @@ fn links_of_model(
 ) -> Result<Vec<List<LinkPattern>>, AllocError>
     requires known { IsKnown model.now }
     requires survey { IsSurvey model.now survey.now }
-    requires inners { AreInners model.now survey.now.sizes.items inners.now }
+    requires inners { AreInners model.now (sizes_in survey.now.counts.items) inners.now }
     ensures { IfOk result (λ links. AreLinks model.now inners.now links.items) }
 {
     let blocks = model.blocks.as_slice();
@@ -69,7 +70,7 @@ fn placed_of_model(
 ) -> Result<List<Placed>, AllocError>
     requires known { IsKnown model.now }
     requires survey { IsSurvey model.now survey.now }
-    requires inners { AreInners model.now survey.now.sizes.items inners.now }
+    requires inners { AreInners model.now (sizes_in survey.now.counts.items) inners.now }
     requires within { flat_refusal model.now ≡ None }
     ensures placed { IfOk result (λ placed. placed ≡ placed_at inners.now [] (top_of model.now) 0) }
     ensures shown { IfOk result PrefixesShown }

@@ -7,14 +7,13 @@ mod accepting;
 mod answering;
 mod due;
 mod judging;
-mod plan;
 mod preparing;
 mod refusing;
 mod running;
+mod sampling;
 mod solving;
 mod status;
 
-pub use plan::{Action, Plan, PlanFault, plan_of};
 pub use running::{run, run_quiet};
 pub use status::Status;
 

@@ -1,4 +1,4 @@
-use Rattle.std.proofs.Common.{◌≡◌, ◌≤◌, ◌∙◌, arith}
+use Rattle.std.proofs.Common.{◌≤◌, ◌∙◌, arith}
 use Rattle.sig_flat.proofs.ModelLaws.{are-valid}
 use Rattle.sig_flat.proofs.flattening.flat_of.Goals as goal
 

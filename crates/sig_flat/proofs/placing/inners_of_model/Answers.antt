@@ -4,6 +4,8 @@ use Rattle.std.specs.List.{Contains}
 use Rattle.std.proofs.lemmas.List.{length-map}
 use Rattle.sig_types.specs.declared.model.Block.{Block}
 use Rattle.sig_types.specs.Breaches.{block_names}
+use Rattle.sig_flat.specs.declared.counts.Counts.{Counts}
+use Rattle.sig_flat.specs.Counting.{sizes_in}
 use Rattle.sig_flat.specs.declared.pattern.Pattern.{Pattern}
 use Rattle.sig_flat.specs.Instances.{no_block}
 use Rattle.sig_flat.specs.Resolved.{block_at}
@@ -31,8 +33,8 @@ inners_of_blocks-requires-clause-uses c = λ k lt.
 pub inners_of_blocks-requires-clause-known : goal.inners_of_blocks-requires-clause-known
 inners_of_blocks-requires-clause-known c = λ k n i.
     let lt = numbers-known c.args.model.now c.requires.known k n (subst (λ (l : List (List ℕ)). Contains (slice_index_or l k []) n) (c.as_slice-numbers.ensures.value ∙ c.requires.survey.numbers) i) in
-    let e = ap length c.as_slice-sizes.ensures.value in
-    let long = c.requires.survey.sizes_long in
+    let e = ap length c.as_slice-counts.ensures.value in
+    let long = c.requires.survey.counts_long in
     omega arith
 
 pub returns : goal.returns
@@ -43,8 +45,8 @@ returns c = record {
       let pattern : slice_index_or c.as_slice-patterns.result.now k no_pattern ≡ pattern_of c.args.model.now.signals c.args.model.now.modes (block_at c.args.model.now.blocks k) =
       ap (λ (l : List Pattern). slice_index_or l k no_pattern) (c.as_slice-patterns.ensures.value ∙ c.requires.survey.patterns) ∙ at-map (pattern_of c.args.model.now.signals c.args.model.now.modes) c.args.model.now.blocks k no_block no_pattern lt in
       c.in_ok-inners.ensures.inners k lt'
-      ∙ ap (λ (l : List ℕ). inners_from l (length (slice_index_or c.as_slice-patterns.result.now k no_pattern).nodes) (block_at c.as_slice-blocks.result.now k).uses (slice_index_or c.as_slice-numbers.result.now k [])) c.as_slice-sizes.ensures.value
-      ∙ ap (λ (n : ℕ). inners_from c.args.survey.now.sizes.items n (block_at c.as_slice-blocks.result.now k).uses (slice_index_or c.as_slice-numbers.result.now k [])) (ap (λ (p : Pattern). length p.nodes) pattern ∙ nodes-counted c.args.model.now.signals c.args.model.now.modes (block_at c.args.model.now.blocks k))
-      ∙ ap (λ (l : List Block). inners_from c.args.survey.now.sizes.items (length (own_names (block_at c.args.model.now.blocks k))) (block_at l k).uses (slice_index_or c.as_slice-numbers.result.now k [])) c.as_slice-blocks.ensures
-      ∙ ap (λ (l : List (List ℕ)). inners_from c.args.survey.now.sizes.items (length (own_names (block_at c.args.model.now.blocks k))) (block_at c.args.model.now.blocks k).uses (slice_index_or l k [])) (c.as_slice-numbers.ensures.value ∙ c.requires.survey.numbers);
+      ∙ ap (λ (l : List Counts). inners_from (sizes_in l) (length (slice_index_or c.as_slice-patterns.result.now k no_pattern).nodes) (block_at c.as_slice-blocks.result.now k).uses (slice_index_or c.as_slice-numbers.result.now k [])) c.as_slice-counts.ensures.value
+      ∙ ap (λ (n : ℕ). inners_from (sizes_in c.args.survey.now.counts.items) n (block_at c.as_slice-blocks.result.now k).uses (slice_index_or c.as_slice-numbers.result.now k [])) (ap (λ (p : Pattern). length p.nodes) pattern ∙ nodes-counted c.args.model.now.signals c.args.model.now.modes (block_at c.args.model.now.blocks k))
+      ∙ ap (λ (l : List Block). inners_from (sizes_in c.args.survey.now.counts.items) (length (own_names (block_at c.args.model.now.blocks k))) (block_at l k).uses (slice_index_or c.as_slice-numbers.result.now k [])) c.as_slice-blocks.ensures
+      ∙ ap (λ (l : List (List ℕ)). inners_from (sizes_in c.args.survey.now.counts.items) (length (own_names (block_at c.args.model.now.blocks k))) (block_at c.args.model.now.blocks k).uses (slice_index_or l k [])) (c.as_slice-numbers.ensures.value ∙ c.requires.survey.numbers);
 }

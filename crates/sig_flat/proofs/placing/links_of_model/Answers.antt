@@ -3,6 +3,8 @@ use Rattle.std.specs.Prelude.{slice_index_or}
 use Rattle.std.specs.List.{Contains}
 use Rattle.std.proofs.lemmas.List.{length-map}
 use Rattle.sig_types.specs.declared.model.Block.{Block}
+use Rattle.sig_flat.specs.Counting.{sizes_in}
+use Rattle.sig_flat.proofs.CountingLaws.{sized}
 use Rattle.sig_flat.specs.Instances.{no_block}
 use Rattle.sig_flat.specs.Resolved.{block_at}
 use Rattle.sig_flat.specs.Places.{own_names}
@@ -38,12 +40,12 @@ links_of_blocks-requires-clause-names c = λ k link lt i.
 pub links_of_blocks-requires-clause-uses : goal.links_of_blocks-requires-clause-uses
 links_of_blocks-requires-clause-uses c = λ k lt.
     let lt' : k < length c.args.model.now.blocks = let e = ap length c.as_slice-blocks.ensures in omega arith in
-    inside-long c.args.model.now c.requires.known c.args.survey.now.sizes.items c.requires.survey.sizes c.args.inners.now c.requires.inners.long c.requires.inners.nested k lt'
+    inside-long c.args.model.now c.requires.known (sizes_in c.args.survey.now.counts.items) (sized c.args.model.now c.requires.known c.args.survey.now.counts.items c.requires.survey.counts_long c.requires.survey.counts) c.args.inners.now c.requires.inners.long c.requires.inners.nested k lt'
     ∙ sym (ap (λ (l : List Block). length (block_at l k).uses) c.as_slice-blocks.ensures)
 
 pub links_of_blocks-requires-clause-blocks : goal.links_of_blocks-requires-clause-blocks
 links_of_blocks-requires-clause-blocks c = λ k inner i.
-    let lt = inner-known c.args.model.now c.requires.known c.args.survey.now.sizes.items c.requires.survey.sizes c.args.inners.now c.requires.inners.long c.requires.inners.nested k inner i in
+    let lt = inner-known c.args.model.now c.requires.known (sizes_in c.args.survey.now.counts.items) (sized c.args.model.now c.requires.known c.args.survey.now.counts.items c.requires.survey.counts_long c.requires.survey.counts) c.args.inners.now c.requires.inners.long c.requires.inners.nested k inner i in
     let e = ap length c.as_slice-blocks.ensures in
     omega arith
 

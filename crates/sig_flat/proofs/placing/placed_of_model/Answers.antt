@@ -1,4 +1,6 @@
 use Rattle.std.proofs.Common.{[], ◌++◌, refl, ap, sym, ◌∙◌, subst, arith}
+use Rattle.sig_flat.specs.Counting.{sizes_in}
+use Rattle.sig_flat.proofs.CountingLaws.{sized}
 use Rattle.sig_flat.specs.Placed.{placed_at, StartsFit, PrefixesShown}
 use Rattle.sig_flat.proofs.CountLaws.{top-there}
 use Rattle.sig_flat.proofs.LinkLaws.{nest-earlier}
@@ -13,12 +15,12 @@ place_instances-requires-clause-block c =
     omega arith
 
 pub place_instances-requires-clause-earlier : goal.place_instances-requires-clause-earlier
-place_instances-requires-clause-earlier c = nest-earlier c.args.model.now c.requires.known c.args.survey.now.sizes.items c.requires.survey.sizes c.args.inners.now c.requires.inners.long c.requires.inners.nested
+place_instances-requires-clause-earlier c = nest-earlier c.args.model.now c.requires.known (sizes_in c.args.survey.now.counts.items) (sized c.args.model.now c.requires.known c.args.survey.now.counts.items c.requires.survey.counts_long c.requires.survey.counts) c.args.inners.now c.requires.inners.long c.requires.inners.nested
 
 pub place_instances-requires-clause-fits : goal.place_instances-requires-clause-fits
 place_instances-requires-clause-fits c =
     subst (λ k. StartsFit (placed_at c.args.inners.now [] k 0)) (sym c.requires.survey.top)
-    (starts-fit c.args.model.now c.requires.known c.requires.within c.args.survey.now.sizes.items c.requires.survey.sizes c.args.inners.now c.requires.inners.long c.requires.inners.nested)
+    (starts-fit c.args.model.now c.requires.known c.requires.within (sizes_in c.args.survey.now.counts.items) (sized c.args.model.now c.requires.known c.args.survey.now.counts.items c.requires.survey.counts_long c.requires.survey.counts) c.args.inners.now c.requires.inners.long c.requires.inners.nested)
 
 pub place_instances-requires-clause-shown : goal.place_instances-requires-clause-shown
 place_instances-requires-clause-shown c = refl

@@ -1,0 +1,24 @@
+use Rattle.std.proofs.Common.{◌≡◌, ◌-◌, List, get_or, subst, sym, ap, ◌∙◌}
+use Rattle.sig_flat.specs.declared.counts.Counts.{Counts}
+use Rattle.sig_flat.specs.Instances.{uses}
+use Rattle.sig_flat.specs.Sizes.{in_word, size}
+use Rattle.sig_flat.specs.Counting.{no_counts}
+use Rattle.sig_flat.specs.Surveys.{top_of, numbers_of, ones_of_blocks, AreCounts, CountsAre}
+use Rattle.sig_flat.proofs.CountLaws.{top-there, instances-counted, links-counted, all-faults, all-tests, all-nodes, depth-is}
+use Rattle.sig_flat.proofs.survey.counts_of.Goals as goal
+
+pub returns : goal.returns
+returns c =
+    let same : get_or c.as_slice-counts.result.now c.args.survey.now.top no_counts ≡ get_or c.args.survey.now.counts.items (top_of c.args.model.now) no_counts =
+    ap (λ (l : List Counts). get_or l c.args.survey.now.top no_counts) c.as_slice-counts.ensures.value ∙ ap (λ k. get_or c.args.survey.now.counts.items k no_counts) c.requires.survey.top in
+    let at : AreCounts c.args.model.now (top_of c.args.model.now) (get_or c.args.survey.now.counts.items (top_of c.args.model.now) no_counts) =
+    c.requires.survey.counts (top_of c.args.model.now) (top-there c.args.model.now c.requires.known) in
+    let fewer : size (ones_of_blocks c.args.model.now) (numbers_of c.args.model.now) (top_of c.args.model.now) - 1 ≡ uses c.args.model.now = ap (λ n. n - 1) (sym (instances-counted c.args.model.now c.requires.known)) in
+    subst (CountsAre c.args.model.now) (sym same) (record {
+      depth = at.depth ∙ ap in_word (sym (depth-is c.args.model.now c.requires.known));
+      uses = at.uses ∙ ap in_word fewer;
+      nodes = at.nodes ∙ ap in_word (sym (all-nodes c.args.model.now c.requires.known));
+      links = at.links ∙ ap in_word (sym (links-counted c.args.model.now c.requires.known));
+      faults = at.faults ∙ ap in_word (sym (all-faults c.args.model.now c.requires.known));
+      tests = at.tests ∙ ap in_word (sym (all-tests c.args.model.now c.requires.known));
+    })
