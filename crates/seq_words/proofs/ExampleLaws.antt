@@ -55,7 +55,7 @@ passing_real inst is =
     subst (λ (q : Problem). IsReal q (classes_of passing_bits)) (sym is) (subst (IsReal star) (sym passing_is) record { wanted = wanted; goals = refl })
 
 pub may_first : (inst : Instance) → problem_of inst ≡ star → MayPublish (opener inst 2) 0 (record { 0 = all_bits })
-may_first inst is = record { next = refl; idle = refl; room = lit< tt; real = star_real inst is; new = λ other h. absurd (omega arith) }
+may_first inst is = record { next = refl; room = lit< tt; real = star_real inst is; new = λ other h. absurd (omega arith) }
 
 -- what the scribe knows after one group and after two, and a worker that has learnt both
 abbrev pub scribe_one : Instance → View
@@ -76,7 +76,6 @@ apart e = second-apart _ _ (sym all_is ∙ (e ∙ passing_is)) refl refl
 pub may_second : (inst : Instance) → problem_of inst ≡ star → MayPublish (scribe_one inst) 1 (record { 0 = passing_bits })
 may_second inst is = record {
   next = refl;
-  idle = refl;
   room = lit< tt;
   real = passing_real inst is;
   new = λ other h. let e : 0 ≡ other = omega arith in subst (λ z. classes_of (known (scribe_one inst) z).bits ≢ classes_of passing_bits) e apart;

@@ -1,8 +1,10 @@
 -- A chain unfolds within all limits, and has few ambiguity groups. What holds of each length is computed.
-use Rattle.std.proofs.Common.{◌≡◌, ◌∙◌, ℕ, ◌+◌, ◌<◌, ◌≤◌, Bool, true, false, List, [], ◌∷◌, length, filter, Option, Some, None, refl, ap, sym, arith}
+use Rattle.std.proofs.Common.{◌≡◌, ◌∙◌, ℕ, ◌+◌, ◌<◌, ◌≤◌, Bool, true, false, List, [], ◌∷◌, length, filter, get_or, Option, Some, None, refl, ap, sym, arith}
 use Rattle.std.specs.Prelude.{nat_le, ◌&&◌, is_none}
 use Rattle.std.specs.List.{range_with_len, list_all, AllZip}
 use Rattle.std.specs.Fmt.{digits}
+use Rattle.std.proofs.lemmas.List.FromFn.{get_or-range_with_len, length-range_with_len}
+use Rattle.std.proofs.lemmas.List.Folds.{list_all_at}
 use Rattle.std.proofs.lemmas.Bool.{and_parts, leb-true}
 use Rattle.std.proofs.lemmas.Slice.Zip.{AllZip-long}
 use Rattle.std.specs.Prelude.{cond, nat_eq}
@@ -16,8 +18,21 @@ use Rattle.sig_flat.specs.Instances.{faults}
 use Rattle.sig_flat.specs.Flats.{IsFlatOf}
 use Rattle.sig_matrix.specs.declared.matrix.Matrix.{Matrix}
 use Rattle.sig_matrix.specs.Detection.{IsMatrixOf, system_of, state_count}
-use Rattle.sig_sample.proofs.NameLaws.{each_below}
 use Rattle.teams_run.specs.Samples.{chain_model}
+
+-- what is computed for all numbers below n holds of each
+each_below : (p : ℕ → Bool) (n i : ℕ) → list_all p (range_with_len 0 n) ≡ true → i < n → p i ≡ true
+each_below p n i all below = go (p i) refl
+  where
+    true_false : true ≡ false → ⊥
+    true_false e = cc
+
+    go : (b : Bool) → p i ≡ b → p i ≡ true
+    go true e = e
+    go false e =
+        let there : get_or (range_with_len 0 n) i 0 ≡ i = omega (arith, get_or-range_with_len 0 n i 0 below) in
+        let none = list_all_at p (range_with_len 0 n) i 0 (rw (length-range_with_len 0 n) below) (ap p there ∙ e) in
+        absurd (true_false (sym all ∙ none))
 
 none_there : (o : Option Refusal) → is_none o ≡ true → o ≡ None
 none_there None e = refl

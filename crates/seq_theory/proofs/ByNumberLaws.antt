@@ -1,16 +1,10 @@
--- Lists over the numbers from 0 on.
---
--- The lists by state and by class are maps of such a list, so each item is the function at its place.
-use Rattle.std.proofs.Common.{◌≡◌, ℕ, zero, suc, ◌+◌, ◌<◌, List, [], ◌∷◌, ◌++◌, length, map, get_or, refl, sym, ap, ◌∙◌, arith}
+-- Lists of what a function gives of the numbers from 0 on: each item is the function at its place.
+use Rattle.std.proofs.Common.{◌≡◌, ℕ, zero, suc, ◌+◌, ◌<◌, List, [], ◌∷◌, ◌++◌, length, map, get_or, sym, ap, ◌∙◌, arith}
 use Rattle.std.proofs.lemmas.List.{length-map, get_or-map, map-append, ext_get_or}
 use Rattle.seq_theory.specs.Problem.{count_up}
-use Rattle.seq_theory.proofs.StatesLaws.{count_up-last}
+use Rattle.seq_theory.proofs.BelowLaws.{length-count_up, count_up-more}
 
-pub length-count_up : (from n : ℕ) → length (count_up from n) ≡ n
-length-count_up from zero = refl
-length-count_up from (suc n) = ap suc (length-count_up (suc from) n)
-
-get_or-count_up : (from n i d : ℕ) → i < n → get_or (count_up from n) i d ≡ from + i
+pub get_or-count_up : (from n i d : ℕ) → i < n → get_or (count_up from n) i d ≡ from + i
 get_or-count_up from zero i d lt = absurd (let h : ⊥ = omega arith in h)
 get_or-count_up from (suc n) zero d lt = let e : from ≡ from + 0 = omega arith in e
 get_or-count_up from (suc n) (suc i) d lt = let e : suc from + i ≡ from + suc i = omega arith in get_or-count_up (suc from) n i d (omega arith) ∙ e
@@ -28,7 +22,7 @@ get_or-by_number f n i d lt =
 pub by_number_more : {X : Type 0} (f : ℕ → X) (n : ℕ) → map f (count_up 0 n) ++ f n ∷ [] ≡ map f (count_up 0 (suc n))
 by_number_more f n =
     let z : 0 + n ≡ n = omega arith in
-    ap (λ k. map f (count_up 0 n) ++ f k ∷ []) (sym z) ∙ sym (map-append f (count_up 0 n) ((0 + n) ∷ [])) ∙ ap (map f) (sym (count_up-last 0 n))
+    ap (λ k. map f (count_up 0 n) ++ f k ∷ []) (sym z) ∙ sym (map-append f (count_up 0 n) ((0 + n) ∷ [])) ∙ ap (map f) (sym (count_up-more 0 n))
 
 -- a list whose items are the function at their places
 pub by_number-from_items : {X : Type 0} (f : ℕ → X) (n : ℕ) (d : X) (xs : List X) → length xs ≡ n → ((i : ℕ) → i < n → get_or xs i d ≡ f i) → xs ≡ map f (count_up 0 n)
