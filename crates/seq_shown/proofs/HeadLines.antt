@@ -2,7 +2,7 @@
 -- is what lies between; and there are no more groups than the limit, as many where the result is bounded, and none
 -- where one goal is left.
 use Rattle.std.proofs.Common.{◌≡◌, ℕ, suc, ◌-◌, ◌<◌, ◌≤◌, List, [], ◌∷◌, length, refl, sym, ap, subst, ◌∙◌, arith, inl, inr, ◌⊎◌}
-use Rattle.std.specs.Prelude.{true, false, not, cond, ◌||◌, nat_eq, nat_lt}
+use Rattle.std.specs.Prelude.{true, false, not, cond, ◌||◌, nat_eq, nat_lt, map}
 use Rattle.std.specs.List.{AllByRecursion}
 use Rattle.std.proofs.lemmas.Bool.{cases_Bool, cases_lt, and_from, or_right, eq-eqb, lt-ltb, le-leb, true≢false, false≢true}
 use Rattle.seq_theory.specs.Problem.{Problem, IsIn, IsWithin, IsWeighed, AreTold, all_classes, is_end}
