@@ -21,8 +21,7 @@ use Rattle.seq_inst.specs.Members.{members}
 use Rattle.seq_inst.specs.Instances.{problem_of}
 use Rattle.seq_inst.specs.Trees.{tree_of}
 use Rattle.seq_inst.specs.Shapes.{AsksSplitting}
-use Rattle.seq_huff.proofs.GreedyCode.{greedy-small}
-use Rattle.seq_huff.proofs.GreedyShape.{greedy-splitting}
+use Rattle.seq_theory.proofs.GreedyParts.{greedy-splitting}
 
 -- the first that passes is in the list and passes
 pub record Finds (f : ℕ → Bool) (xs : List ℕ) (t : ℕ) : Type 0 where
@@ -184,7 +183,7 @@ made-same (Err x) a b h e = tt
 pub value-small : (inst : Instance) (entered : List (List ℕ)) (g : Group) (v : ℕ) → IsWithin (problem_of inst) (members g) → val (problem_of inst) entered (members g) ≡ Some v → v ≤ 2097664000000000000
 value-small inst entered g v within is =
     let a = val-le-greedy (problem_of inst) entered (members g) v is in
-    let b = greedy-small inst g within in
+    let b = inst.stands.greedy_fits g within in
     omega arith
 
 -- what the code's group, where it asks a test, knows of that test
