@@ -12,6 +12,7 @@ use Rattle.sig_lines.specs.Numbers.{number_in, hex_in, words_of}
 use Rattle.sig_lines.proofs.HexWords.{hex_in-some, hex_in-hex, hex_read, number_back, plain_hex}
 use Rattle.sig_lines.proofs.PieceLaws.{IsPlain, ArePlain, IsSome, two_is, three_is, four_is, one_is}
 use Rattle.sig_lines.proofs.NumberWords.{same_text-true, same_text-refl, number_in-decimal, number_in-some, plain_decimal}
+use Rattle.seq_inst.specs.Verdicts.{verdict_word}
 use Rattle.seq_inst.specs.declared.outcome.Verdict.{Verdict}
 use Rattle.seq_inst.specs.declared.outcome.Verdict.TheVariants.{Optimal, Bounded}
 use Rattle.seq_cert.specs.declared.report.StateLine.{StateLine}
@@ -21,7 +22,7 @@ use Rattle.seq_cert.specs.declared.report.TreeLine.{TreeLine}
 use Rattle.seq_cert.specs.declared.report.TreeLine.TheVariants.{Ask, Leaf}
 use Rattle.sig_lines.specs.declared.labels.TestLabel.{TestLabel}
 use Rattle.seq_cert.specs.LineForms.{most_32, most_64, both, is_in, is_label, is_mode, keyed, numbered, title_in, title_from, mode_word_in, mode_in, verdict_in, result_in, state_from, state_in, group_of, group_from, group_in, class_from, class_in, test_from, test_in, tree_from, tree_line_in, is_tree_line, missed_of, missed_from, missed_in, end_from, end_in}
-use Rattle.seq_cert.specs.Text.{title_words, mode_words, verdict_word, result_words, state_words, hex_word, group_words, class_words, tree_words, missed_words}
+use Rattle.seq_cert.specs.Text.{title_words, mode_words, result_words, state_words, hex_word, group_words, class_words, tree_words, missed_words}
 use Rattle.seq_cert.specs.ReportForm.{InRange, IsState, IsGroup, IsGroupLine, IsClassLine, IsTest, IsMissed}
 use Rattle.seq_cert.proofs.Spells.{IsForm}
 

@@ -1,13 +1,13 @@
 -- The tree lines of a strategy that asks, and the lowest class of a group.
-use Rattle.std.proofs.Common.{◌≡◌, ℕ, zero, suc, ◌+◌, ◌-◌, ◌<◌, List, [], ◌∷◌, ◌++◌, map, get_or, max, refl, sym, ap, subst, ◌∙◌, arith}
+use Rattle.std.proofs.Common.{◌≡◌, ℕ, zero, suc, ◌+◌, ◌-◌, ◌<◌, List, [], ◌∷◌, ◌++◌, map, get_or, max, refl, sym, ap, subst, ◌∙◌, arith, Option, Some, None}
 use Rattle.std.specs.Prelude.{true}
 use Rattle.std.proofs.lemmas.List.{map-append}
 use Rattle.seq_theory.specs.Problem.{Problem, pass_part, fail_part}
 use Rattle.seq_theory.specs.Tree.{Tree, ask, AsksOnly}
-use Rattle.seq_inst.specs.Members.{has_class, members_below, members}
+use Rattle.seq_inst.specs.Members.{has_class, members_below, members, IsStep}
 use Rattle.seq_inst.specs.Shapes.{height}
 use Rattle.seq_inst.specs.declared.group.Group.{Group}
-use Rattle.seq_inst.proofs.MembersLaws.{members_below-in, members_below-more}
+use Rattle.seq_theory.proofs.BelowLaws.{passing-zero, passing-in, passing-more}
 use Rattle.seq_cert.specs.declared.report.TreeLine.TheVariants.{Ask}
 use Rattle.sig_lines.specs.Pieces.{Words}
 use Rattle.seq_cert.specs.Text.{tree_words}
@@ -55,14 +55,21 @@ module _ (g : Group) (c : ℕ) (here : has_class g c ≡ true) (before : members
   stays : (n : ℕ) → Begins c (members_below g ((c + 1) + n))
   stays zero =
       let e : c + 1 ≡ (c + 1) + 0 = omega arith in
-      let at : members_below g (c + 1) ≡ c ∷ [] = members_below-in g c here ∙ ap (λ l. l ++ c ∷ []) before in
+      let at : members_below g (c + 1) ≡ c ∷ [] = passing-in (has_class g) c here ∙ ap (λ l. l ++ c ∷ []) before in
       subst (λ (k : ℕ). Begins c (members_below g k)) e (subst (Begins c) (sym at) refl)
   stays (suc n) =
       let e : ((c + 1) + n) + 1 ≡ (c + 1) + suc n = omega arith in
-      subst (λ (k : ℕ). Begins c (members_below g k)) e (subst (Begins c) (sym (members_below-more g ((c + 1) + n))) (begins-append c (members_below g ((c + 1) + n)) _ (stays n)))
+      subst (λ (k : ℕ). Begins c (members_below g k)) e (subst (Begins c) (sym (passing-more (has_class g) ((c + 1) + n))) (begins-append c (members_below g ((c + 1) + n)) _ (stays n)))
 
   -- the first class of a group that none comes before is its lowest
   pub lowest_is : c < 512 → c ≡ get_or (members g) 0 0
   lowest_is small =
       let e : (c + 1) + (511 - c) ≡ 512 = omega arith in
       first_of c (members g) (subst (λ (k : ℕ). Begins c (members_below g k)) e (stays (511 - c)))
+
+-- where a walk over the classes has its first class, and where it has none
+pub lowest_some : (g : Group) (o : Option ℕ) (c : ℕ) → IsStep g 0 o → o ≡ Some c → c ≡ get_or (members g) 0 0
+lowest_some g o c step is = let s = subst (IsStep g 0) is step in lowest_is g c s.class.1 (s.before ∙ passing-zero (has_class g)) s.class.0
+
+pub lowest_none : (g : Group) (o : Option ℕ) → IsStep g 0 o → o ≡ None → 0 ≡ get_or (members g) 0 0
+lowest_none g o step is = let s = subst (IsStep g 0) is step in ap (λ (l : List ℕ). get_or l 0 0) (sym (s.before ∙ passing-zero (has_class g)))

@@ -221,10 +221,3 @@ written_form p o labels sized w some few are there numbers fits =
       groups = recursion_from_All IsGroupLine (in_order (map row_line o.rows.items)) numbers.groups;
       missed = missing_fits o.verdict o.missed fits.missed numbers.missed;
     }
-
--- the problem of an instance is one that a search can take
-pub sized : (inst : Instance) → IsSized (problem_of inst)
-sized inst = record { classes = (inst.valid).few; costs = λ t lt. ((inst.valid).costs t lt).1; weights = (inst.valid).total }
-
-pub weighed : (inst : Instance) → IsWeighed (problem_of inst)
-weighed inst = record { positive = (inst.valid).positive; goals = λ c lt. lt }

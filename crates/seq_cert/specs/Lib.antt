@@ -9,3 +9,4 @@ pub mod LineForms
 pub mod Reading
 pub mod ReportForm
 pub mod BothWays
+pub mod BadCodes

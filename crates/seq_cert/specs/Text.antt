@@ -5,7 +5,7 @@ use Rattle.sig_lines.specs.Pieces.{Words, number_words, test_words, bytes_of}
 use Rattle.sig_lines.specs.declared.labels.TestLabel.{TestLabel}
 use Rattle.seq_inst.specs.declared.group.Group.{Group}
 use Rattle.seq_inst.specs.declared.outcome.Verdict.{Verdict}
-use Rattle.seq_inst.specs.declared.outcome.Verdict.TheVariants.{Optimal, Bounded}
+use Rattle.seq_inst.specs.Verdicts.{verdict_word}
 use Rattle.seq_cert.specs.declared.report.Report.{Report}
 use Rattle.seq_cert.specs.declared.report.ClassLine.{ClassLine}
 use Rattle.seq_cert.specs.declared.report.StateLine.{StateLine}
@@ -19,10 +19,6 @@ title_words = codes "teams" ∷ codes "report" ∷ codes "1" ∷ []
 
 abbrev pub mode_words : List ℕ → Words
 mode_words mode = codes "mode" ∷ mode ∷ []
-
-abbrev pub verdict_word : Verdict → List ℕ
-verdict_word Optimal = codes "optimal"
-verdict_word Bounded = codes "bounded"
 
 abbrev pub result_words : Verdict → Words
 result_words verdict = codes "result" ∷ verdict_word verdict ∷ []

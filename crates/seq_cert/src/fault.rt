@@ -1,6 +1,7 @@
 //! What may be wrong with a report: the first bad line, with the lowest code that it breaks. A reader
 //! names a line that is not of its form (C01); a checker names a line that says what is not so.
 ghost use Rattle.std.specs.Prelude.{◌≡◌};
+ghost use Rattle.seq_cert.specs.BadCodes.{bad_word};
 ghost use Rattle.seq_cert.specs.declared.fault.ReportFault.TheVariants.{Bad, OutOfMemory};
 ghost use Rattle.seq_cert.specs.declared.fault.BadCode.TheVariants.{C01};
 
@@ -29,6 +30,25 @@ pub enum BadCode {
     C08,
     /// The missed group's size or classes are wrong, or it is listed.
     C09,
+}
+
+impl BadCode {
+    /// The code as it is printed.
+    pub fn word(self) -> &'static str
+        ensures { result.now ≡ bad_word self }
+    {
+        match self {
+            BadCode::C01 => "C01",
+            BadCode::C02 => "C02",
+            BadCode::C03 => "C03",
+            BadCode::C04 => "C04",
+            BadCode::C05 => "C05",
+            BadCode::C06 => "C06",
+            BadCode::C07 => "C07",
+            BadCode::C08 => "C08",
+            BadCode::C09 => "C09",
+        }
+    }
 }
 
 /// A bad line, counted from 1.

@@ -1,6 +1,6 @@
 //! The entered groups of a report, by size and at one size by the group as a number. A stable sort puts
 //! them in order, so nothing is asked of the rows.
-ghost use Rattle.std.specs.Prelude.{◌≡◌, ◌^◌, ◌<◌, ◌∷◌, [], ℕ, length, map, slice_index, OnOk, IfOk, IfSome, All};
+ghost use Rattle.std.specs.Prelude.{◌≡◌, length, map, OnOk, IfOk, IfSome, All};
 ghost use Rattle.std.specs.Option.{option_map};
 ghost use Rattle.std.specs.Ordering.{is_lt, nat_cmp};
 ghost use Rattle.sig_lines.specs.Hex.{number_of_words};
@@ -11,7 +11,7 @@ ghost use Rattle.seq_cert.specs.OutcomeReport.{row_line, missed_line};
 ghost use Rattle.seq_cert.specs.ReportForm.{IsGroup, IsGroupLine, IsMissed};
 
 use crate::report::GroupLine;
-use seq_inst::{Group, Row, count_of};
+use seq_inst::{Group, Row, count_of, group_stands};
 use sig_lines::Lines;
 use std::alloc::{AllocError, Global};
 use std::cmp::Ordering;
@@ -48,22 +48,11 @@ pub fn comes_before(a: &GroupLine, b: &GroupLine) -> bool
     compare_lines(a, b).is_lt()
 }
 
-/// How long an array of eight words is, for proofs alone.
-fn know_eight(bits: &[u64; 8])
-    ensures { length bits.now ≡ 8 }
-{}
-
-/// How great words are, for proofs alone.
-fn know_words(bits: &[u64])
-    ensures { (i : ℕ) → slice_index bits.now i < 2 ^ 64 }
-{}
-
 /// That a group's words are those of its number, for proofs alone.
 fn know_group(group: &Group)
     ensures { IsGroup group.now }
 {
-    know_eight(&group.0);
-    know_words(&group.0);
+    group_stands(group);
 }
 
 /// The line of a row.

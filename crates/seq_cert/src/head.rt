@@ -5,23 +5,13 @@ ghost use Rattle.sig_lines.specs.Pieces.{number_words};
 ghost use Rattle.sig_lines.specs.Written.{with_lines};
 ghost use Rattle.seq_theory.specs.Problem.{all_classes, weight_of as weight_in};
 ghost use Rattle.seq_inst.specs.Instances.{problem_of};
-ghost use Rattle.seq_cert.specs.Text.{verdict_word, result_words, head_lines};
+ghost use Rattle.seq_cert.specs.Text.{result_words, head_lines};
 ghost use Rattle.seq_cert.specs.Order.{in_order};
 ghost use Rattle.seq_cert.specs.OutcomeReport.{report_from, row_line};
 
-use seq_inst::{Instance, Outcome, Verdict, root, weight_of};
+use seq_inst::{Instance, Outcome, root, weight_of};
 use sig_lines::{Labels, Lines};
 use std::alloc::AllocError;
-
-/// The word for a verdict.
-fn verdict_name(verdict: Verdict) -> &'static str
-    ensures { result.now ≡ verdict_word verdict }
-{
-    match verdict {
-        Verdict::Optimal => "optimal",
-        Verdict::Bounded => "bounded",
-    }
-}
 
 /// The sum of all weights.
 fn whole_weight(inst: &Instance) -> u64
@@ -47,7 +37,7 @@ fn write_result(out: &mut Lines, outcome: &Outcome) -> Result<(), AllocError>
     requires { outcome.now.low ≤ outcome.now.cost }
     ensures { OnOk result (out.new ≡ with_lines out.old (result_words outcome.now.verdict ∷ number_words (codes "cost") outcome.now.cost ∷ number_words (codes "low") outcome.now.low ∷ number_words (codes "gap") (outcome.now.cost - outcome.now.low) ∷ number_words (codes "limit") outcome.now.limit ∷ number_words (codes "groups") (length (in_order (map row_line outcome.now.rows.items))) ∷ [])) }
 {
-    out.line(&["result", verdict_name(outcome.verdict)])?;
+    out.line(&["result", outcome.verdict.word()])?;
     out.number_line("cost", outcome.cost)?;
     out.number_line("low", outcome.low)?;
     out.number_line("gap", outcome.cost - outcome.low)?;

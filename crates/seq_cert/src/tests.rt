@@ -4,7 +4,7 @@ ghost use Rattle.seq_theory.specs.Tree.{AsksOnly};
 ghost use Rattle.seq_inst.specs.Trees.{tree_of};
 
 use crate::{BadCode, BadLine, Report, ReportFault, read_report, report_of};
-use seq_inst::{Group, Instance, Outcome, Row, Strategy, Verdict, ask_first};
+use seq_inst::{Group, Instance, Outcome, Row, Strategy, Verdict, ask_first, checked_holds};
 use sig_lines::{Labels, StateLabel, TestLabel};
 use sig_types::{List, Text};
 use std::alloc::{AllocError, Global};
@@ -21,6 +21,7 @@ fn two_faults(alloc: Global) -> Result<Instance, AllocError>
         Group([5, 0, 0, 0, 0, 0, 0, 0]),
         Group([3, 0, 0, 0, 0, 0, 0, 0]),
     ]?;
+    checked_holds();
     Ok(Instance::new(weights, costs, passes))
 }
 

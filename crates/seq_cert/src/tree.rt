@@ -18,12 +18,10 @@ use std::alloc::AllocError;
 pub fn lowest_class(group: &Group) -> u32
     ensures { result ≡ slice_index (members group.now) 0 }
 {
-    for class in 0..512 {
-        if group.has(class) {
-            return class;
-        }
+    match group.first_from(0) {
+        Some(class) => class,
+        None => 0,
     }
-    0
 }
 
 fn write_ask(out: &mut Lines, test: u32) -> Result<(), AllocError>

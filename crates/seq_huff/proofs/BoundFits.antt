@@ -4,7 +4,7 @@ use Rattle.std.proofs.Common.{◌≡◌, ℕ, zero, suc, ◌+◌, ◌<◌, ◌�
 pub use Rattle.seq_theory.proofs.BelowLaws.{product-le}
 use Rattle.std.proofs.lemmas.List.Sums.{sum_by-cons}
 use Rattle.std.specs.Prelude.{true, false, map, min, sum}
-use Rattle.std.proofs.lemmas.Bool.{cases_Bool, cases_lt}
+use Rattle.std.proofs.lemmas.Bool.{cases_lt}
 use Rattle.seq_theory.specs.Problem.{Problem, IsIn, IsWithin, weight_of, is_end, splits, splitting, least_of}
 use Rattle.seq_theory.specs.Huffman.{upward, huff}
 use Rattle.seq_theory.proofs.BoundLeast.{weight-positive, some_class}
@@ -143,21 +143,7 @@ bound-end p xs e = rw e refl
 
 -- a bound is small
 pub bound-small : (inst : Instance) (g : Group) → IsWithin (problem_of inst) (members g) → bound (problem_of inst) (members g) ≤ 2097664000000000000
-unfolding bound
-bound-small inst g within =
-    let p = problem_of inst in
-    let xs = members g in
-    elim (cases_Bool (is_end p xs)) [
-      | inl e ↦ rw e (omega arith)
-      | inr e ↦ rw e
-          (let f = bound-fits inst g (splitting_costs p xs) within e refl in
-          let k = huff (goal_weights p xs) / weight_of p xs in
-          let positive = f.positive in
-          let a = f.product k in
-          let lt : huff (goal_weights p xs) % weight_of p xs < weight_of p xs = omega arith in
-          let b = f.rest (huff (goal_weights p xs) % weight_of p xs) k lt in
-          omega arith)
-    ]
+bound-small inst g within = inst.stands.bound_fits g within
 
 -- the sum of a test and the bounds of its parts fits
 pub step-fits : (inst : Instance) (g pass fail : Group) (cost weight a b test : ℕ) → IsWithin (problem_of inst) (members g) → IsWithin (problem_of inst) (members pass) → IsWithin (problem_of inst) (members fail) → test < (problem_of inst).tests → cost ≡ (problem_of inst).cost test → weight ≡ weight_of (problem_of inst) (members g) → a ≡ bound (problem_of inst) (members pass) → b ≡ bound (problem_of inst) (members fail) → (cost * weight ≤ 4097000000000000) × (a ≤ 2097664000000000000) × (b ≤ 2097664000000000000)

@@ -1,21 +1,16 @@
 -- What the greedy calls owe.
-use Rattle.std.proofs.Common.{◌≡◌, ℕ, ◌+◌, ◌*◌, ◌<◌, ◌≤◌, List, [], ◌∷◌, ◌++◌, length, refl, sym, ap, ◌∙◌, arith, subst, Option, Some, None}
+use Rattle.std.proofs.Common.{◌≡◌, ℕ, ◌≤◌, List, [], ◌∷◌, ◌++◌, refl, sym, ap, ◌∙◌, subst, Option, Some, None}
 use Rattle.std.specs.Prelude.{Bool, true, false, cond, nat_le}
-use Rattle.seq_theory.specs.Problem.{Problem, IsIn, IsWithin, AreTold, is_end, splitting, pass_part, fail_part, fails, weight_of}
-use Rattle.seq_theory.specs.Tree.{ask, tree_cost}
+use Rattle.seq_theory.specs.Problem.{Problem, IsIn, IsWithin, AreTold, is_end, splitting}
 use Rattle.seq_theory.specs.Bound.{bound, step_sum}
-use Rattle.seq_theory.specs.Greedy.{first_least, greedy_test, greedy, greedy_cost}
+use Rattle.seq_theory.specs.Greedy.{first_least, greedy_test, greedy_cost}
 use Rattle.seq_theory.proofs.LeastOfLaws.{first_least-last}
-use Rattle.seq_theory.proofs.GreedyLaws.{greedy_test_splits, greedy-end, greedy-more, part-within, greedy-cheap}
-use Rattle.seq_theory.proofs.BelowLaws.{length-passing}
+pub use Rattle.seq_theory.proofs.GreedyParts.{cost-end, GreedyParts, greedy_there, greedy_parts}
+use Rattle.seq_theory.proofs.GreedyLaws.{greedy_test_splits}
 use Rattle.seq_inst.specs.declared.group.Group.{Group}
 use Rattle.seq_inst.specs.declared.instance.Instance.{Instance}
-use Rattle.seq_inst.specs.Members.{members, has_class}
+use Rattle.seq_inst.specs.Members.{members}
 use Rattle.seq_inst.specs.Instances.{problem_of}
-use Rattle.seq_huff.proofs.BoundFits.{product-le}
-use Rattle.seq_theory.proofs.PartsRecursion.{splitting-splits, splitting-there}
-use Rattle.seq_theory.proofs.GroupLaws.{pass_part_smaller, fail_part_smaller}
-use Rattle.seq_theory.proofs.CostLaws.{tree_cost-leaf, tree_cost-ask}
 use Rattle.seq_huff.specs.declared.choice.Chosen.{Chosen}
 use Rattle.seq_huff.specs.Choice.{lesser_choice}
 
@@ -74,46 +69,5 @@ chosen-some p group told within e s = go (splitting p group) (greedy_test_splits
         none_some : (c : Chosen) → None ≡ Some c → ⊥
         none_some c e = cc
 
--- ---- the recursion over groups ----
-
-pub cost-end : (p : Problem) (group : List ℕ) → AreTold p → IsWithin p group → is_end p group ≡ true → 0 ≡ greedy_cost p group
-cost-end p group told within e = sym (ap (λ t. tree_cost p t group) (greedy-end p group told within e) ∙ tree_cost-leaf p group)
-
--- what the parts of the greedy test are
-pub record GreedyParts (p : Problem) (group pass fail : List ℕ) (test : ℕ) : Type 0 where
-  pub there : test < p.tests
-  pub pass_within : IsWithin p pass
-  pub fail_within : IsWithin p fail
-  pub pass_smaller : length pass < length group
-  pub fail_smaller : length fail < length group
-  pub tree : greedy p group ≡ ask test (greedy p pass) (greedy p fail)
-  pub cost : greedy_cost p group ≡ p.cost test * weight_of p group + (greedy_cost p pass + greedy_cost p fail)
-
-pub greedy_there : (p : Problem) (group : List ℕ) (test : ℕ) → AreTold p → IsWithin p group → is_end p group ≡ false → test ≡ greedy_test p group → test < p.tests
-greedy_there p group test told within e is = subst (λ t. t < p.tests) (sym is) (splitting-there p group (greedy_test p group) (greedy_test_splits p group told within e))
-
-pub greedy_parts : (p : Problem) (group pass fail : List ℕ) (test : ℕ) → AreTold p → IsWithin p group → is_end p group ≡ false → test ≡ greedy_test p group → pass ≡ pass_part p test group → fail ≡ fail_part p test group → GreedyParts p group pass fail test
-greedy_parts p group pass fail test told within e is pe fe =
-    let i = subst (λ t. IsIn t (splitting p group)) (sym is) (greedy_test_splits p group told within e) in
-    let s = splitting-splits p group test i in
-    let t = greedy-more p group told within e ∙ ap (λ u. ask u (greedy p (pass_part p u group)) (greedy p (fail_part p u group))) (sym is) in
-    record {
-      there = splitting-there p group test i;
-      pass_within = subst (IsWithin p) (sym pe) (part-within p (p.passes test) group within);
-      fail_within = subst (IsWithin p) (sym fe) (part-within p (fails p test) group within);
-      pass_smaller = (let l = ap length pe in omega (arith, pass_part_smaller p test group s));
-      fail_smaller = (let l = ap length fe in omega (arith, fail_part_smaller p test group s));
-      tree = t ∙ ap (λ x. ask test x (greedy p (fail_part p test group))) (sym (ap (greedy p) pe)) ∙ ap (λ x. ask test (greedy p pass) x) (sym (ap (greedy p) fe));
-      cost = ap (λ u. tree_cost p u group) t ∙ tree_cost-ask p test (greedy p (pass_part p test group)) (greedy p (fail_part p test group)) group
-          ∙ ap (λ x. p.cost test * weight_of p group + (x + greedy_cost p (fail_part p test group))) (sym (ap (greedy_cost p) pe))
-          ∙ ap (λ x. p.cost test * weight_of p group + (greedy_cost p pass + x)) (sym (ap (greedy_cost p) fe));
-    }
-
 pub greedy-small : (inst : Instance) (g : Group) → IsWithin (problem_of inst) (members g) → greedy_cost (problem_of inst) (members g) ≤ 2097664000000000000
-greedy-small inst g within =
-    let p = problem_of inst in
-    let f = greedy-cheap p 1000000 (members g) (λ t lt. (inst.valid.costs t lt).1) inst.valid.told within in
-    let w = inst.stands.light g within in
-    let l = length-passing (has_class g) 512 in
-    let m = product-le (weight_of p (members g)) (length (members g) * 1000000) 4097000000 512000000 w (omega arith) in
-    omega arith
+greedy-small inst g within = inst.stands.greedy_fits g within

@@ -4,6 +4,7 @@ use Rattle.seq_theory.specs.Problem.{Problem, splits, is_end}
 use Rattle.seq_theory.specs.Tree.{Tree, Solves, tree_cost}
 use Rattle.seq_theory.specs.Bound.{bound, step_sum}
 use Rattle.seq_theory.specs.Graph.{part, IsWanted}
+pub use Rattle.seq_inst.specs.Stands.{greatest_cost}
 use Rattle.seq_theory.specs.Huffman.{BinaryTree, leaves, path_length_at}
 
 -- no binary tree with one leaf for each weight has a smaller weighted path length
@@ -22,8 +23,3 @@ IsAtLeastLeast p group n = (tree : Tree) × Solves p tree group × (tree_cost p 
 -- parts
 abbrev pub WantsParts : Problem → List ℕ → ℕ → Type 0
 WantsParts p group n = (t : ℕ) (passed : Bool) → IsWanted p group → is_end p group ≡ false → t < p.tests → splits p group t ≡ true → step_sum p (bound p) group t ≤ n → IsWanted p (part p t passed group)
-
--- no bound and no greedy cost of a group is above it: 512 tests of 1,000,000 each for a weight of 4,097,000,000. Three such
--- numbers fit a word together
-abbrev pub greatest_cost : ℕ
-greatest_cost = 2097664000000000000

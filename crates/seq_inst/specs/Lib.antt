@@ -7,3 +7,4 @@ pub mod Trees
 pub mod Shapes
 pub mod Stands
 pub mod Checked
+pub mod Verdicts

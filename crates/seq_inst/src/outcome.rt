@@ -1,4 +1,7 @@
 //! What a search ends with: a strategy, its cost, a lower bound, and the entered groups that show it.
+ghost use Rattle.std.specs.Prelude.{◌≡◌};
+ghost use Rattle.seq_inst.specs.Verdicts.{verdict_word};
+
 use crate::group::Group;
 use crate::strategy::Strategy;
 
@@ -15,6 +18,18 @@ pub struct Row {
 pub enum Verdict {
     Optimal,
     Bounded,
+}
+
+impl Verdict {
+    /// The verdict as it is written.
+    pub fn word(self) -> &'static str
+        ensures { result.now ≡ verdict_word self }
+    {
+        match self {
+            Verdict::Optimal => "optimal",
+            Verdict::Bounded => "bounded",
+        }
+    }
 }
 
 /// The outcome of a search: costs are sums of weight times cost.

@@ -25,4 +25,6 @@ pub mod NumberingLaws
 pub mod PassageProofs
 pub mod BelowLaws
 pub mod ShapeLaws
+pub mod CountedLaws
+pub mod GreedyParts
 pub mod RecursionProofs

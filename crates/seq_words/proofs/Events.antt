@@ -17,15 +17,9 @@ use Rattle.seq_inst.specs.Members.{members}
 use Rattle.seq_words.specs.RowsOf.{row_of, rows_of, row_at, classes_of}
 use Rattle.seq_words.specs.Knowledge.{told_of, IsLow, IsUp}
 
-pub sized : (inst : Instance) → IsSized (problem_of inst)
-sized inst = record { classes = inst.valid.few; costs = λ t h. (inst.valid.costs t h).1; weights = inst.valid.total }
-
-pub weighed : (inst : Instance) → IsWeighed (problem_of inst)
-weighed inst = record { positive = inst.valid.positive; goals = λ c h. h }
-
 -- an allowed event keeps the rows sound
 pub event-sound : (inst : Instance) (limit : ℕ) (rows : List TheoryRow) (e : Event) → IsSound (problem_of inst) limit rows → IsAllowed (problem_of inst) limit rows e → IsSound (problem_of inst) limit (after rows e)
-event-sound inst limit rows e s a = events-sound (problem_of inst) limit rows (e ∷ []) (sized inst) inst.valid.told s (a, tt)
+event-sound inst limit rows e s a = events-sound (problem_of inst) limit rows (e ∷ []) inst.stands.sized inst.stands.told s (a, tt)
 
 pub row-got : (rows : List Row) (p : ℕ) → p < length rows → slice_get (rows_of rows) p ≡ Some (row_of (row_at rows p))
 row-got [] p h = absurd (omega arith)
@@ -71,11 +65,11 @@ row-right inst limit rows p bits h s is =
     let q = problem_of inst in
     let r = row_of (row_at rows p) in
     let i = row-among rows p h in
-    let b = sound-bounds q limit (rows_of rows) r (weighed inst) inst.valid.told s i in
+    let b = sound-bounds q limit (rows_of rows) r inst.stands.weighed inst.stands.told s i in
     let within = wanted-within q r.group (s.real r i).wanted in
     let group : classes_of (row_at rows p).group.0 ≡ classes_of bits = ap classes_of is in
     let one : (n : ℕ) → IsLeast q (classes_of bits) n → least q r.group ≡ n =
-    λ n l. IsLeast-one q r.group (least q r.group) n (IsLeast-least q r.group inst.valid.told within) (subst (λ g. IsLeast q g n) (sym group) l) in
+    λ n l. IsLeast-one q r.group (least q r.group) n (IsLeast-least q r.group inst.stands.told within) (subst (λ g. IsLeast q g n) (sym group) l) in
     let b0 = b.0 in
     let b1 = b.1 in
     ((λ n l. let e = one n l in omega arith), (λ n l. let e = one n l in omega arith))

@@ -15,3 +15,4 @@ pub mod Published
 pub mod GroupReads
 pub mod ClosedRows
 pub mod Looks
+pub mod ExampleLaws

@@ -13,13 +13,8 @@ use crate::rule::Bounds;
 use crate::view::{Terms, View};
 use crate::words::{Scribe, Words};
 use atomic_table::{Seat, Shared};
-use seq_inst::Group;
+use seq_inst::{Group, group_stands};
 use std::marker::Brand;
-
-/// That a group is eight words is known of the type. This brings it to proofs, and does nothing.
-fn know_eight(words: &[u64; 8])
-    ensures { length words.now ≡ 8 }
-{}
 
 /// Stores the first word of bits.
 fn begin<D: Drafting>(
@@ -33,7 +28,7 @@ fn begin<D: Drafting>(
     requires may { MayPublish seat.old.me.0 place group.now }
     ensures { (seat.new.table_id ≡ seat.old.table_id) × (seat.new.me ≡ (begins group.now.0 seat.old.me.0, seat.old.me.1)) }
 {
-    know_eight(&group.0);
+    group_stands(group);
     table.store::<Begin<D>>(seat, bits_word(place, 0), group.0[0]);
 }
 
@@ -95,6 +90,6 @@ pub fn publish(words: &Words, scribe: &mut Scribe, place: u32, group: &Group)
     ensures others { (other : ℕ) → other ≢ place → known scribe.new.view other ≡ known scribe.old.view other }
     ensures learns { scribe.new ≡ sees scribe.old (published place group.now.0 scribe.old.view) }
 {
-    know_eight(&group.0);
+    group_stands(group);
     write_group(&words.table.shared, &mut scribe.seat, place, group);
 }

@@ -11,7 +11,7 @@ use Rattle.sig_types.specs.Sets.{has_bit}
 use Rattle.sig_flat.specs.declared.flat.Flat.{Flat}
 use Rattle.sig_flat.specs.declared.flat.FlatTest.{FlatTest}
 use Rattle.sig_matrix.specs.Detection.{Detects, in_row, fault_at, test_at}
-use Rattle.sig_matrix.specs.Filling.{is_set, IsSetIn, IsTestAdded, AreRows, is_before}
+use Rattle.sig_matrix.specs.Filling.{is_set, IsSetIn, IsTestAdded, IsWanted, AreRows, is_before}
 
 -- a row with one more bit
 abbrev pub with_bit : List ℕ → ℕ → List ℕ
@@ -195,6 +195,27 @@ module _ (flat : Flat) (tests : List FlatTest) (mode : ℕ) where
   -- no test is made in the mode
   pub mode-unused : (rows : List (List ℕ)) → ((t : ℕ) → t < length tests → (test_at tests t).mode ≢ mode) → AreRows flat tests (is_before tests mode) rows → AreRows flat tests (is_before tests (mode + 1)) rows
   mode-unused rows none h = rows-same flat tests (is_before tests mode) (is_before tests (mode + 1)) rows (λ t lt. unused-same (test_at tests t).mode mode (none t lt)) h
+
+-- the nodes of tests that are made in the mode are marked, number by number
+module _ (flat : Flat) (mode : ℕ) (numbers : List ℕ) where
+  abbrev wanted_test : ℕ → FlatTest
+  wanted_test k = test_at flat.tests (get_or numbers k 0)
+
+  -- the next test is made in the mode, and its node is marked
+  pub wanted-more : (marks : List Bool) (i node : ℕ) → node ≡ (wanted_test i).node → node < length marks → ((k : ℕ) → k < i → IsWanted flat mode marks (get_or numbers k 0)) → (k : ℕ) → k < i + 1 → IsWanted flat mode (set marks node true) (get_or numbers k 0)
+  wanted-more marks i node is there h k lt made = elim (cases_eq (wanted_test k).node node) [
+    | inl same ↦ ap (λ v. get_or (set marks node true) v false) same ∙ get_or-set_same marks node true false there
+    | inr ne ↦
+        (let apart : k ≢ i = λ e. ne (ap (λ j. (wanted_test j).node) e ∙ sym is) in
+        get_or-set_other marks node (wanted_test k).node true false ne ∙ h k (omega arith) made)
+  ]
+
+  -- the next test is made in another mode
+  pub wanted-pass : (marks : List Bool) (i : ℕ) → (wanted_test i).mode ≢ mode → ((k : ℕ) → k < i → IsWanted flat mode marks (get_or numbers k 0)) → (k : ℕ) → k < i + 1 → IsWanted flat mode marks (get_or numbers k 0)
+  wanted-pass marks i other h k lt made = elim (cases_eq k i) [
+    | inl e ↦ absurd (other (sym (ap (λ j. (wanted_test j).mode) e) ∙ made))
+    | inr ne ↦ h k (omega arith) made
+  ]
 
 -- at first no bit is set
 no-bit : (n f t : ℕ) → is_set (replicate n (replicate {A = ℕ} 4 0)) f t ≡ false

@@ -2,6 +2,7 @@
 use Rattle.std.specs.Prelude.{◌≡◌, ◌≢◌, ◌⊎◌, ◌↔◌, ℕ, ◌<◌, ◌≤◌, nat_lt, Bool, true, false, List, [], length, slice_index_or}
 use Rattle.sig_flat.specs.declared.flat.Flat.{Flat}
 use Rattle.sig_flat.specs.declared.flat.FlatTest.{FlatTest}
+use Rattle.sig_reach.specs.Marks.{is_marked}
 use Rattle.sig_matrix.specs.Detection.{Detects, in_row, fault_at, test_at}
 
 -- whether the fault's row has the test's bit
@@ -29,3 +30,7 @@ pub record AreRows (flat : Flat) (tests : List FlatTest) (is_done : ℕ → Bool
 -- whether the test's mode is an earlier one
 abbrev pub is_before : List FlatTest → ℕ → ℕ → Bool
 is_before tests mode t = nat_lt (test_at tests t).mode mode
+
+-- a test with the number that is made in the mode has its node marked
+abbrev pub IsWanted : Flat → ℕ → List Bool → ℕ → Type 0
+IsWanted flat mode wanted n = (test_at flat.tests n).mode ≡ mode → is_marked wanted (test_at flat.tests n).node ≡ true

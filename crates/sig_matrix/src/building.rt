@@ -1,24 +1,26 @@
 //! The matrix of a flat model, filled in mode by mode.
 //!
-//! One `Reach` answers for all tests of its mode, and is dropped before the next mode's is made, so that one at most
-//! stands in memory. A mode without a test that is taken costs one look at the tests. Beside the reaches the work is one
-//! question for each fault and test.
+//! One `ReachTo` answers for the tests of its mode, and is dropped before the next mode's is made, so that one at most
+//! stands in memory. So each test gets two passes over the links of its mode, and tests of one mode at one node share
+//! them. A mode without a test that is taken costs one look at the tests. Beside the passes the work is one question for
+//! each fault and test.
 
 ghost use Rattle.std.specs.Prelude.{◌≡◌, ◌≢◌, ℕ, ◌+◌, ◌<◌, ◌≤◌, true, length, map, All, IfOk, IfSome};
 ghost use Rattle.std.specs.Bool.{OnFalse};
-ghost use Rattle.std.specs.List.{AllZip, Contains};
+ghost use Rattle.std.specs.List.{AllZip};
 ghost use Rattle.sig_flat.specs.Valid.{IsValid as IsValidFlat};
 ghost use Rattle.sig_flat.specs.declared.flat.FlatTest.{FlatTest};
+ghost use Rattle.sig_reach.specs.Marks.{is_marked};
 ghost use Rattle.sig_matrix.specs.declared.matrix.FaultRow.{FaultRow};
 ghost use Rattle.sig_matrix.specs.Detection.{IsMatrixOf, IsRowOf, IsLabelOf, is_taken, taken, test_at};
-ghost use Rattle.sig_matrix.specs.Filling.{IsSetIn, IsTestAdded, AreRows, is_before};
+ghost use Rattle.sig_matrix.specs.Filling.{IsSetIn, IsTestAdded, IsWanted, AreRows, is_before};
 ghost use Rattle.sig_matrix.specs.Valid.{IsValid};
 
 use crate::detection::is_detected;
 use crate::matrix::{FaultRow, Matrix};
 use sig_flat::{Flat, FlatTest};
 use sig_lines::TestLabel;
-use sig_reach::{Reach, reaches};
+use sig_reach::{ReachTo, reaches_to};
 use sig_types::{List, Text};
 use std::alloc::{AllocError, Global};
 
@@ -77,11 +79,11 @@ fn with_test(row: [u64; 4], test: u32) -> [u64; 4]
 }
 
 /// Sets the test's bit in the row of each fault that it detects.
-fn add_test(reach: &Reach, flat: &Flat, test: &FlatTest, column: u32, rows: &mut [[u64; 4]])
+fn add_test(reach: &ReachTo, flat: &Flat, test: &FlatTest, column: u32, rows: &mut [[u64; 4]])
     requires valid { IsValidFlat flat.now }
     requires reach { reach.now.flat ≡ flat.now }
     requires mode { reach.now.mode ≡ test.now.mode }
-    requires test { Contains flat.now.tests test.now }
+    requires point { is_marked reach.now.wanted test.now.node ≡ true }
     requires column { column < 256 }
     requires rows { length rows.old ≡ length flat.now.faults }
     ensures { IsTestAdded flat.now test.now column rows.old rows.new }
@@ -95,11 +97,12 @@ fn add_test(reach: &Reach, flat: &Flat, test: &FlatTest, column: u32, rows: &mut
 }
 
 /// Sets the bits of the tests of one mode.
-fn add_mode(reach: &Reach, flat: &Flat, numbers: &[u32], mode: u32, rows: &mut [[u64; 4]])
+fn add_mode(reach: &ReachTo, flat: &Flat, numbers: &[u32], mode: u32, rows: &mut [[u64; 4]])
     requires valid { IsValidFlat flat.now }
     requires reach { reach.now.flat ≡ flat.now }
     requires mode { reach.now.mode ≡ mode }
     requires there { All (λ n. n < length flat.now.tests) numbers.now }
+    requires wanted { All (IsWanted flat.now mode reach.now.wanted) numbers.now }
     requires few { length numbers.now ≤ 256 }
     requires rows { AreRows flat.now (map (test_at flat.now.tests) numbers.now) (is_before (map (test_at flat.now.tests) numbers.now) mode) rows.old }
     ensures { AreRows flat.now (map (test_at flat.now.tests) numbers.now) (is_before (map (test_at flat.now.tests) numbers.now) (mode + 1)) rows.new }
@@ -127,6 +130,29 @@ fn is_used(flat: &Flat, numbers: &[u32], mode: u32) -> bool
     false
 }
 
+/// Which nodes have one of the tests with these numbers in the mode.
+fn wanted_nodes(
+    alloc: Global,
+    flat: &Flat,
+    numbers: &[u32],
+    mode: u32,
+) -> Result<Vec<bool>, AllocError>
+    requires valid { IsValidFlat flat.now }
+    requires there { All (λ n. n < length flat.now.tests) numbers.now }
+    ensures long { IfOk result (λ wanted. length wanted.items ≡ length flat.now.nodes) }
+    ensures wanted { IfOk result (λ wanted. All (IsWanted flat.now mode wanted.items) numbers.now) }
+{
+    let tests = flat.tests.as_slice();
+    let mut wanted = vec![in alloc; false; flat.nodes.len()]?;
+    for number in numbers {
+        let test = &tests[*number as usize];
+        if test.mode == mode {
+            wanted[test.node as usize] = true;
+        }
+    }
+    Ok(wanted)
+}
+
 /// For each fault its row over the tests with these numbers.
 fn rows_of(alloc: Global, flat: &Flat, numbers: &[u32]) -> Result<Vec<[u64; 4]>, AllocError>
     requires valid { IsValidFlat flat.now }
@@ -137,7 +163,8 @@ fn rows_of(alloc: Global, flat: &Flat, numbers: &[u32]) -> Result<Vec<[u64; 4]>,
     let mut rows = vec![in alloc; [0u64; 4]; flat.faults.len()]?;
     for mode in 0..flat.modes.len() as u32 {
         if is_used(flat, numbers, mode) {
-            let reach = reaches(alloc, flat, mode)?;
+            let wanted = wanted_nodes(alloc, flat, numbers, mode)?;
+            let reach = reaches_to(alloc, flat, mode, wanted)?;
             add_mode(&reach, flat, numbers, mode, rows.as_mut_slice());
         }
     }
@@ -165,7 +192,8 @@ fn faults_with(alloc: Global, flat: &Flat, rows: &[[u64; 4]]) -> Result<List<Fau
 }
 
 /// The matrix of a flat model: of all its tests, each in its own mode, or of the tests of one mode alone, renumbered in
-/// order. It costs a `Reach` for each mode in use, and a question for each fault and test.
+/// order. It costs two passes for each test, a look at each link for each mode in use, and a question for each fault and
+/// test.
 pub fn matrix_of(alloc: Global, flat: &Flat, mode: Option<u32>) -> Result<Matrix, AllocError>
     requires valid { IsValidFlat flat.now }
     requires mode { IfSome mode (λ m. m < length flat.now.modes) }

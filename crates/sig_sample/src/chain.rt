@@ -1,6 +1,7 @@
 //! The chain, list by list: parts, points, and the links from each part to the part behind it and to its point.
 ghost use Rattle.std.specs.Prelude.{◌≡◌, ◌≤◌, ◌-◌, ◌++◌, [], ◌∷◌, map, IfOk, OnOk};
 ghost use Rattle.std.specs.List.{range_with_len};
+ghost use Rattle.sig_types.specs.Breaches.{breaches};
 ghost use Rattle.sig_sample.specs.Chain.{part, point, step, tap, chain, chain_block, part_weight, test_cost, end_at, most_parts};
 
 use crate::names::{chain_name, part_name, point_name, signals, test_name};
@@ -140,7 +141,7 @@ fn steps(alloc: Global, n: u32) -> Result<List<Link>, AllocError>
 }
 
 /// Adds the links to the points.
-#[tactic(auto, using(crate::proofs::NameLaws::one_more))]
+#[tactic(auto, using(crate::proofs::NameLaws::one_more_behind))]
 fn with_taps(alloc: Global, links: List<Link>, n: u32) -> Result<List<Link>, AllocError>
     requires { n ≤ 100 }
     ensures { IfOk result (λ l. l ≡ links ++ map tap (range_with_len 1 n)) }
@@ -171,11 +172,13 @@ fn block(alloc: Global, n: u32) -> Result<Block, AllocError>
 }
 
 /// The chain of n parts, 1 to 100. Part i has a functional fault of weight `1 + 7*i % 10`, and the test at its point
-/// costs `1 + 3*i % 4`. No fault has the weight 10.
+/// costs `1 + 3*i % 4`. No fault has the weight 10. `Model::check` finds no breach in it.
+#[tactic(auto, using(crate::proofs::Accepted::no_breach))]
 pub fn sample(alloc: Global, n: u32) -> Result<Model, AllocError>
     requires least { 1 ≤ n }
     requires most { n ≤ most_parts }
-    ensures { IfOk result (λ model. model ≡ chain n) }
+    ensures chain { IfOk result (λ model. model ≡ chain n) }
+    ensures sound { IfOk result (λ model. breaches model ≡ []) }
 {
     let mut blocks = List::new(alloc);
     blocks.push(block(alloc, n)?)?;

@@ -7,9 +7,7 @@ use Rattle.sig_types.specs.declared.refusals.ModelFault.{ModelFault}
 use Rattle.sig_text.specs.Document.{document_of}
 use Rattle.sig_text.specs.Tables.{document_breaches, model_of}
 use Rattle.sig_text.specs.Texts.{text_breaches, text_model}
-use Rattle.sig_types.specs.Refused.{TellsFirst}
-use Rattle.sig_text.specs.Reading.{Answers}
-use Rattle.sig_text.proofs.First.{tells}
+use Rattle.sig_types.specs.Refused.{Answers, TellsFirst}
 
 pub stands_for : (bytes : List ℕ) (table : Members) (answer : Result Model ModelFault) → document_of bytes ≡ Some table → Answers answer (document_breaches table) (model_of table) → IfOk answer (λ model. (text_breaches bytes ≡ []) × (model ≡ text_model bytes))
 stands_for bytes table (Ok model) found h = rw found h
@@ -17,4 +15,4 @@ stands_for bytes table (Err fault) found h = tt
 
 pub tells_first : (bytes : List ℕ) (table : Members) (answer : Result Model ModelFault) → document_of bytes ≡ Some table → Answers answer (document_breaches table) (model_of table) → IfErr answer (TellsFirst (text_breaches bytes))
 tells_first bytes table (Ok model) found h = tt
-tells_first bytes table (Err fault) found h = rw found (tells fault (document_breaches table) h)
+tells_first bytes table (Err fault) found h = rw found h

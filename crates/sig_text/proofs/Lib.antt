@@ -1,3 +1,4 @@
+pub mod Examples
 pub mod KeyLaws
 pub mod Documents
 pub mod Elements

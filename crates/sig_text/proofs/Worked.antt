@@ -16,7 +16,7 @@ use Rattle.sig_types.specs.declared.refusals.Place.{Place}
 use Rattle.sig_types.specs.declared.refusals.Place.TheVariants.{Document, In}
 use Rattle.sig_types.specs.declared.refusals.Refusal.{Refusal}
 use Rattle.sig_text.specs.Texts.{text_breaches, text_model}
-use Rattle.sig_text.specs.Examples.{box, stage, broken}
+use Rattle.sig_text.proofs.Examples.{box, stage, broken}
 
 abbrev part : List ℕ → ℕ → Part
 part name weight = record { name = name; functional = Some (record { weight = weight; signals = codes "s" ∷ [] }); general = None; stops = [] }

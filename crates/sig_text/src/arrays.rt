@@ -4,7 +4,7 @@ ghost use Rattle.std.specs.Prelude.{◌≡◌, [], ◌++◌};
 ghost use Rattle.toml.specs.View.{view, table_view, items_view};
 ghost use Rattle.sig_types.specs.Spots.{at_key};
 ghost use Rattle.sig_text.specs.Keys.{value_at};
-ghost use Rattle.sig_text.specs.Reading.{Answers};
+ghost use Rattle.sig_types.specs.Refused.{Answers};
 ghost use Rattle.sig_text.specs.Values.{each_breaches, each_of, array_breaches, list_of, optional_breaches, value_or_empty};
 
 use crate::keys::member;
@@ -20,7 +20,10 @@ fn elements_in<T: FromValue>(
 ) -> Result<List<T>, ModelFault>
     ensures { Answers result (each_breaches T.breaches at 0 (items_view items.now)) (each_of T.stands_for (items_view items.now)) }
 {
-    let mut elements = List::new(alloc);
+    let mut elements = match List::with_capacity(alloc, items.len()) {
+        Ok(elements) => elements,
+        Err(_) => return Err(ModelFault::OutOfMemory),
+    };
     for (i, value) in items.iter().enumerate() {
         let element = T::read(alloc, value, at.element(i as u64))?;
         match elements.push(element) {

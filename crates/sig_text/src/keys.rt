@@ -9,7 +9,7 @@ ghost use Rattle.std.specs.List.{list_all};
 ghost use Rattle.std.specs.BTreeMap.{keys};
 ghost use Rattle.toml.specs.View.{view, table_view};
 ghost use Rattle.sig_text.specs.Keys.{value_at, is_known, are_known, unknown_keys};
-ghost use Rattle.sig_text.specs.Reading.{Answers};
+ghost use Rattle.sig_types.specs.Refused.{Answers};
 
 use crate::values::refuse;
 use sig_types::{Code, Key, ModelFault, Place};

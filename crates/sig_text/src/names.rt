@@ -6,7 +6,7 @@
 ghost use Rattle.std.specs.Prelude.{◌≡◌, [], MatchOption, true, false};
 ghost use Rattle.std.specs.List.{before_first, after_first};
 ghost use Rattle.toml.specs.View.{view};
-ghost use Rattle.sig_text.specs.Reading.{Answers};
+ghost use Rattle.sig_types.specs.Refused.{Answers};
 ghost use Rattle.sig_text.specs.Values.{name_breaches, name_of, is_dot, is_pair, pair_in, is_end, end_in, end_breaches, end_of};
 
 use crate::values::{FromValue, refuse};

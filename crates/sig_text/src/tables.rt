@@ -9,7 +9,7 @@ ghost use Rattle.sig_types.specs.declared.refusals.Kind.TheVariants.{Part as Par
 ghost use Rattle.sig_types.specs.declared.refusals.Key.TheVariants.{Functional as FunctionalKey};
 ghost use Rattle.sig_types.specs.Spots.{as_block, as_item, as_test};
 ghost use Rattle.sig_text.specs.Keys.{value_at, part_keys};
-ghost use Rattle.sig_text.specs.Reading.{Answers};
+ghost use Rattle.sig_types.specs.Refused.{Answers};
 ghost use Rattle.sig_text.specs.Values.{table_breaches, table_of};
 ghost use Rattle.sig_text.specs.Tables.{link_breaches, link_of, test_breaches, test_of, point_breaches, point_of, use_breaches, use_of, functional_breaches, functional_of, part_breaches, part_of, block_breaches, block_of, model_breaches, document_breaches, model_of};
 

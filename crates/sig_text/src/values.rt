@@ -7,7 +7,7 @@ ghost use Rattle.std.specs.Prelude.{◌≡◌, Err, option_map};
 ghost use Rattle.toml.specs.View.{view, table_view};
 ghost use Rattle.sig_types.specs.Spots.{at_key};
 ghost use Rattle.sig_text.specs.Keys.{value_at};
-ghost use Rattle.sig_text.specs.Reading.{Answers};
+ghost use Rattle.sig_types.specs.Refused.{Answers};
 ghost use Rattle.sig_text.specs.Values.{required_breaches, optional_breaches, value_or_empty};
 
 use crate::keys::member;
@@ -29,7 +29,7 @@ pub trait FromValue: Drop {
     ghost use Rattle.toml.specs.View.{view};
     ghost use Rattle.sig_types.specs.declared.refusals.Refusal.{Refusal};
     ghost use Rattle.sig_types.specs.declared.spot.Spot.{Spot};
-    ghost use Rattle.sig_text.specs.Reading.{Answers};
+    ghost use Rattle.sig_types.specs.Refused.{Answers};
 
     /// The breaches of a value that stands somewhere, in the order in which they are looked for.
     ghost breaches: { Spot → Data → List Refusal };

@@ -2,14 +2,15 @@
 -- over. A loop over a list keeps that the breaches of the whole are those of what is left (`AreChecked`).
 use Rattle.std.proofs.Common.{◌≡◌, ℕ, suc, ◌+◌, ◌<◌, ◌≤◌, List, [], ◌∷◌, ◌++◌, length, get_or, drop, Result, Ok, Err, Some, sym, ap, ap₂, subst, ◌∙◌, add-one, drop-cons}
 use Rattle.std.proofs.lemmas.List.{drop_all}
+use Rattle.std.specs.Prelude.{slice_get}
 use Rattle.std.specs.Result.{IsErrAnd}
 use Rattle.sig_types.specs.declared.refusals.Refusal.{Refusal}
 use Rattle.sig_types.specs.declared.refusals.ModelFault.{ModelFault}
 use Rattle.sig_types.specs.declared.refusals.ModelFault.TheVariants.{Refused, OutOfMemory}
 use Rattle.sig_types.specs.Breaches.{each, each_from}
-use Rattle.sig_types.specs.Refused.{first, TellsFirst, IsVerdict}
+use Rattle.sig_types.specs.Refused.{TellsFirst, IsVerdict}
 
-first-left : (a b : List Refusal) (r : Refusal) → first a ≡ Some r → first (a ++ b) ≡ Some r
+first-left : (a b : List Refusal) (r : Refusal) → slice_get a 0 ≡ Some r → slice_get (a ++ b) 0 ≡ Some r
 first-left [] b r h = cc
 first-left (x ∷ a) b r h = h
 

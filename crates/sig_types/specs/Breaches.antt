@@ -21,6 +21,7 @@ use Rattle.sig_types.specs.declared.refusals.Counted.TheVariants.{Signals as Man
 use Rattle.sig_types.specs.declared.refusals.Kind.{Kind}
 use Rattle.sig_types.specs.declared.refusals.Kind.TheVariants.{Part as PartKind, Use as UseKind, Point as PointKind, Link as LinkKind}
 use Rattle.sig_types.specs.declared.refusals.Key.{Key}
+use Rattle.sig_types.specs.Limits.{most_blocks, most_modes, most_signals}
 use Rattle.sig_types.specs.Spots.{block_at, document_spot, item_at, place_of, test_at}
 use Rattle.sig_types.specs.declared.refusals.Key.TheVariants.{Signals, Modes, Top, Name, Ports, Switches, Stops, Block as BlockKey, Mode, From, To}
 
@@ -97,11 +98,9 @@ scope_of b block =
 abbrev pub names_of : List Named → List (List ℕ)
 names_of scope = map (λ (x : Named). x.name) scope
 
--- a. names that repeat in the block, and then in each point
-abbrev pub repeated_names : ℕ → Block → List Refusal
-repeated_names b block =
-    repeats (scope_of b block)
-    ++ each (λ p (point : Point). repeats (each (λ t (test : Test). named test.name (in_test b p t Name None)) point.tests)) block.points
+-- a. names that repeat among the tests of a point
+abbrev pub repeated_tests : ℕ → List Point → List Refusal
+repeated_tests b points = each (λ p (point : Point). repeats (each (λ t (test : Test). named test.name (in_test b p t Name None)) point.tests)) points
 
 -- b. parts
 abbrev pub functional_signals : Option Functional → List (List ℕ)
@@ -175,23 +174,40 @@ link_breaches model b block k link =
     ++ unknown_among (known_modes model) (λ e. in_item b LinkKind k (Some Modes) (Some e)) link.modes
     ++ breach_if (not (same_answer (is_switch block link.from || is_switch block link.to) (names_some link.modes))) M12 (in_item b LinkKind k None None)
 
-abbrev pub block_breaches : Model → ℕ → Block → List Refusal
-block_breaches model b block =
-    repeated_names b block
+-- what stands in a block: names of tests that repeat, then parts, uses, tests and links
+abbrev pub contents_breaches : Model → ℕ → Block → List Refusal
+contents_breaches model b block =
+    repeated_tests b block.points
     ++ each (part_breaches model b) block.parts
     ++ each (use_breaches model b) block.uses
     ++ each (λ p (point : Point). each (test_breaches model b p) point.tests) block.points
     ++ each (link_breaches model b block) block.links
 
+-- names of items that repeat, and then what stands in the block
+abbrev pub block_breaches : Model → ℕ → Block → List Refusal
+block_breaches model b block = repeats (scope_of b block) ++ contents_breaches model b block
+
 abbrev pub too_many : Counted → ℕ → ℕ → List Refusal
 too_many counted limit count = breach_if (nat_lt limit count) M13 (Count counted)
 
--- all breaches: counts, repeated signals, modes and block names, each block, and the top
-abbrev pub breaches : Model → List Refusal
-breaches model =
-    too_many ManySignals 64 (length model.signals) ++ too_many ManyModes 32 (length model.modes) ++ too_many ManyBlocks 1024 (length model.blocks)
-    ++ repeats (each (λ k n. named n (in_document Signals (Some k))) model.signals)
+-- too many signals, modes or blocks
+abbrev pub count_breaches : Model → List Refusal
+count_breaches model =
+    too_many ManySignals most_signals (length model.signals) ++ too_many ManyModes most_modes (length model.modes) ++ too_many ManyBlocks most_blocks (length model.blocks)
+
+-- names that repeat among the signals, the modes and the blocks
+abbrev pub repeated_at_top : Model → List Refusal
+repeated_at_top model =
+    repeats (each (λ k n. named n (in_document Signals (Some k))) model.signals)
     ++ repeats (each (λ k n. named n (in_document Modes (Some k))) model.modes)
     ++ repeats (each (λ b (block : Block). named block.name (in_block b Name None)) model.blocks)
-    ++ each (block_breaches model) model.blocks
+
+-- each block, and then the top
+abbrev pub indexed_breaches : Model → List Refusal
+indexed_breaches model =
+    each (block_breaches model) model.blocks
     ++ breach_if (not (has (block_names model) model.top)) M08 (in_document Top None)
+
+-- all breaches
+abbrev pub breaches : Model → List Refusal
+breaches model = count_breaches model ++ repeated_at_top model ++ indexed_breaches model

@@ -3,8 +3,7 @@
 //! where the earlier ones have none. Names are looked up in sets that are made once, so that all of it takes a few
 //! look-ups for each name of the model.
 ghost use Rattle.std.specs.Prelude.{◌≡◌, [], IfOk, IfErr};
-ghost use Rattle.sig_types.specs.Breaches.{breaches, known_modes, or_normal, too_many};
-ghost use Rattle.sig_types.specs.Parts.{count_breaches, indexed_breaches};
+ghost use Rattle.sig_types.specs.Breaches.{breaches, count_breaches, indexed_breaches, known_modes, or_normal, too_many};
 ghost use Rattle.sig_types.specs.Refused.{IsVerdict, TellsFirst};
 ghost use Rattle.sig_types.specs.Symbols.{AreSymbolsOf};
 
@@ -26,19 +25,27 @@ use index::{Index, normal};
 use names::refuse_if;
 use std::alloc::{AllocError, Global};
 
+/// A set of signals is the bits of one word.
+const MOST_SIGNALS: usize = 64;
+
+/// A set of modes is the bits of half a word.
+const MOST_MODES: usize = 32;
+
+const MOST_BLOCKS: usize = 1024;
+
 fn check_count(counted: Counted, limit: usize, count: usize) -> Result<(), ModelFault>
     ensures { IsVerdict (too_many counted limit count) result }
 {
     refuse_if(limit < count, Code::M13, Place::Count(counted))
 }
 
-/// At most 64 signals, 32 modes and 1,024 blocks.
+/// Signals, then modes, then blocks are not too many.
 fn check_counts(model: &Model) -> Result<(), ModelFault>
     ensures { IsVerdict (count_breaches model.now) result }
 {
-    check_count(Counted::Signals, 64, model.signals.len())?;
-    check_count(Counted::Modes, 32, model.modes.len())?;
-    check_count(Counted::Blocks, 1024, model.blocks.len())
+    check_count(Counted::Signals, MOST_SIGNALS, model.signals.len())?;
+    check_count(Counted::Modes, MOST_MODES, model.modes.len())?;
+    check_count(Counted::Blocks, MOST_BLOCKS, model.blocks.len())
 }
 
 /// The blocks, and then the top.

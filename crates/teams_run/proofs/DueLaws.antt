@@ -5,8 +5,8 @@ use Rattle.sig_flat.specs.declared.flat.Flat.{Flat}
 use Rattle.sig_matrix.specs.declared.matrix.Matrix.{Matrix}
 use Rattle.sig_matrix.specs.Detection.{system_of}
 use Rattle.sig_classes.specs.Labels.{labels_from}
-use Rattle.teams_run.specs.declared.plan.Plan.{Plan}
-use Rattle.teams_run.specs.declared.plan.Action.TheVariants.{Check}
+use Rattle.teams_words.specs.declared.plan.Plan.{Plan}
+use Rattle.teams_words.specs.declared.plan.Action.TheVariants.{Check}
 use Rattle.teams_run.specs.declared.status.Status.{Status}
 use Rattle.teams_run.specs.declared.status.Status.TheVariants.{Done, ModelRefused, Usage, Bounded, ReadFault, WriteFault, NoMemory, Rejected, Missing, TooLong}
 use Rattle.teams_run.specs.Accepted.{IsMatrixOfText}

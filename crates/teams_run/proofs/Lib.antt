@@ -1,8 +1,8 @@
 pub mod LabelLaws
 pub mod RefusalLaws
 pub mod ModeLaws
-pub mod ValueLaws
-pub mod PlanLaws
+pub mod SampleLaws
+pub mod EndLaws
 pub mod StandLaws
 pub mod DueLaws
 pub mod PrintableLaws

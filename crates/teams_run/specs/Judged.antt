@@ -1,17 +1,19 @@
 -- What the check of a certificate says of a system.
-use Rattle.std.specs.Prelude.{◌≡◌, ⊤, ◌⊎◌, ℕ, ◌≤◌, List, length, ◌++◌, codes, decimal, Some, Ok, Err}
+use Rattle.std.specs.Prelude.{◌≡◌, ⊤, ◌⊎◌, ℕ, ◌≤◌, List, [], ◌∷◌, length, codes, decimal, Some, Ok, Err}
 use Rattle.seq_theory.specs.Problem.{Problem, all_classes}
 use Rattle.seq_theory.specs.Tree.{Tree}
 use Rattle.seq_theory.specs.States.{System, firsts, IsOfClasses}
 use Rattle.seq_inst.specs.declared.outcome.Verdict.TheVariants.{Optimal}
+use Rattle.seq_inst.specs.Verdicts.{verdict_word}
+use Rattle.sig_lines.specs.Pieces.{Words, bytes_of}
 use Rattle.sig_lines.specs.declared.labels.Labels.{Labels}
 use Rattle.seq_cert.specs.declared.report.Report.{Report}
 use Rattle.seq_cert.specs.declared.fault.BadLine.{BadLine}
-use Rattle.seq_cert.specs.declared.fault.BadCode.{BadCode}
-use Rattle.seq_cert.specs.declared.fault.BadCode.TheVariants.{C01, C02, C03, C04, C05, C06, C07, C08, C09}
+use Rattle.seq_cert.specs.declared.fault.BadCode.TheVariants.{C01}
 use Rattle.seq_cert.specs.declared.fault.ReportFault.{ReportFault}
 use Rattle.seq_cert.specs.declared.fault.ReportFault.TheVariants.{Bad, OutOfMemory}
-use Rattle.seq_cert.specs.Text.{report_bytes, verdict_word}
+use Rattle.seq_cert.specs.BadCodes.{bad_word}
+use Rattle.seq_cert.specs.Text.{report_bytes}
 use Rattle.seq_cert.specs.ReportForm.{IsReport}
 use Rattle.seq_cert.specs.Reading.{report_at}
 use Rattle.seq_cert.specs.TreeLines.{tree_lines}
@@ -55,24 +57,18 @@ pub record ShowsStates (sys : System) (p : Problem) (report : Report) : Type 0 w
   pub optimal : report.verdict ≡ Optimal → report.cost ≡ least
 
 -- accepted VERDICT cost C low L
-abbrev pub accepted_line : Report → List ℕ
-accepted_line report =
-    codes "accepted " ++ (verdict_word report.verdict ++ (codes " cost " ++ (decimal report.cost ++ (codes " low " ++ (decimal report.low ++ codes "\n")))))
+abbrev pub accepted_words : Report → Words
+accepted_words report = codes "accepted" ∷ verdict_word report.verdict ∷ codes "cost" ∷ decimal report.cost ∷ codes "low" ∷ decimal report.low ∷ []
 
-abbrev pub bad_word : BadCode → List ℕ
-bad_word C01 = codes "C01"
-bad_word C02 = codes "C02"
-bad_word C03 = codes "C03"
-bad_word C04 = codes "C04"
-bad_word C05 = codes "C05"
-bad_word C06 = codes "C06"
-bad_word C07 = codes "C07"
-bad_word C08 = codes "C08"
-bad_word C09 = codes "C09"
+abbrev pub accepted_line : Report → List ℕ
+accepted_line report = bytes_of (accepted_words report ∷ [])
 
 -- rejected line N CODE
+abbrev pub rejected_words : BadLine → Words
+rejected_words bad = codes "rejected" ∷ codes "line" ∷ decimal bad.line ∷ bad_word bad.code ∷ []
+
 abbrev pub rejected_line : BadLine → List ℕ
-rejected_line bad = codes "rejected line " ++ (decimal bad.line ++ (codes " " ++ (bad_word bad.code ++ codes "\n")))
+rejected_line bad = bytes_of (rejected_words bad ∷ [])
 
 -- the certificate is accepted for the system, which has at most 512 ambiguity groups, and shows a right strategy, its cost,
 -- and a low that no right strategy undercuts

@@ -1,10 +1,9 @@
 pub mod RefusalText
 pub mod Statuses
-pub mod Plans
-pub mod Chosen
 pub mod Accepted
 pub mod Solved
 pub mod Ready
 pub mod Judged
+pub mod Samples
 pub mod Texts
 pub mod Runs

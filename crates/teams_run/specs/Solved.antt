@@ -35,10 +35,6 @@ state_cost sys tree = tree_cost (state_problem sys) tree (all_states sys)
 abbrev pub IsLeastFor : System → ℕ → Type 0
 IsLeastFor sys cost = IsLeast (state_problem sys) (all_states sys) cost
 
--- how many groups a search may enter
-abbrev pub IsLimit : ℕ → Type 0
-IsLimit groups = (1 ≤ groups) × (groups ≤ 32768)
-
 -- the outcome's strategy is right for all states and costs its cost; the least cost lies between its low and its cost, and is
 -- the cost where the verdict is Optimal
 pub record Stands (sys : System) (o : Outcome) : Type 0 where
@@ -51,15 +47,19 @@ pub record Stands (sys : System) (o : Outcome) : Type 0 where
   pub optimal : o.verdict ≡ Optimal → o.cost ≡ least
   pub bounded : o.verdict ≡ Bounded → o.low < o.cost
 
--- the text is the report of a right outcome over the system's ambiguity groups, of which there are at most 512, under these
--- labels, with this limit
-pub record IsSolution (sys : System) (labels : Labels) (groups : ℕ) (verdict : Verdict) (text : List ℕ) : Type 0 where
+-- the outcome is right over the system's ambiguity groups, of which there are at most 512, with this limit, and says the same
+-- of the states
+pub record IsSolved (sys : System) (problem : Problem) (groups : ℕ) (outcome : Outcome) : Type 0 where
   pub few : length (firsts sys) ≤ 512
-  pub problem : Problem
   pub classes : IsOfClasses sys problem
-  pub outcome : Outcome
   pub right : IsRightOutcome problem groups outcome
   pub stands : Stands sys outcome
+
+-- the text is the report of such an outcome under these labels
+pub record IsSolution (sys : System) (labels : Labels) (groups : ℕ) (verdict : Verdict) (text : List ℕ) : Type 0 where
+  pub problem : Problem
+  pub outcome : Outcome
+  pub solved : IsSolved sys problem groups outcome
   pub verdict_is : outcome.verdict ≡ verdict
   pub report : text ≡ report_bytes (report_from problem outcome labels)
   -- the checker accepts it

@@ -15,9 +15,9 @@ use Rattle.seq_inst.specs.declared.outcome.Verdict.TheVariants.{Optimal, Bounded
 use Rattle.sig_figures.specs.declared.summary.Figures.{Figures}
 use Rattle.sig_figures.specs.Figures.{AreFigures}
 use Rattle.sig_figures.specs.FiguresText.{figures_bytes}
-use Rattle.teams_run.specs.declared.plan.Plan.{Plan}
-use Rattle.teams_run.specs.declared.plan.Action.{Action}
-use Rattle.teams_run.specs.declared.plan.Action.TheVariants.{Solve, Check, Matrix as MatrixAction, Figures as FiguresAction}
+use Rattle.teams_words.specs.declared.plan.Plan.{Plan}
+use Rattle.teams_words.specs.declared.plan.Action.{Action}
+use Rattle.teams_words.specs.declared.plan.Action.TheVariants.{Solve, Check, Matrix as MatrixAction, Figures as FiguresAction, Sample}
 use Rattle.teams_run.specs.declared.status.Status.{Status}
 use Rattle.teams_run.specs.declared.status.Status.TheVariants.{Done, Bounded, ModelRefused, Rejected}
 use Rattle.teams_run.specs.RefusalText.{refusal_line}
@@ -71,12 +71,13 @@ pub record IsChecked (plan : Plan) (holds : Holds) (content : List ℕ) (status 
   pub within : length cert ≤ cert_limit
   pub judged : IsJudgement (system_of matrix) (labels_from matrix (mode_word plan.mode)) cert status text
 
--- the actions that take at most 512 ambiguity groups
+-- the actions that take a file whose system has at most 512 ambiguity groups
 abbrev pub NeedsClasses : Action → Type 0
 NeedsClasses Solve = ⊤
 NeedsClasses Check = ⊤
 NeedsClasses MatrixAction = ⊥
 NeedsClasses FiguresAction = ⊥
+NeedsClasses Sample = ⊥
 
 -- why an action's text can't be made of the matrix of a model
 abbrev pub TellsUnfit : Plan → System → ModelFault → Type 0

@@ -8,23 +8,23 @@ ghost use Rattle.sig_types.specs.Refused.{TellsFirst};
 ghost use Rattle.sig_classes.specs.Labels.{labels_from};
 ghost use Rattle.seq_shown.specs.Laws.{ArePrintable};
 ghost use Rattle.teams_run.specs.Accepted.{IsMatrixOfText, mode_number, refusals};
+ghost use Rattle.teams_words.specs.Plans.{IsLimit};
 ghost use Rattle.teams_run.specs.Ready.{IsPrepared};
-ghost use Rattle.teams_run.specs.Solved.{IsLimit, IsUnsolved, TellsUnsolved};
+ghost use Rattle.teams_run.specs.Solved.{IsUnsolved, TellsUnsolved};
 ghost use Rattle.teams_run.specs.Texts.{IsFiguresText, IsTextFor, IsAnswer, TellsUnfit, TellsWhy, mode_word};
 
 use crate::accepting::{flat_of_text, mode_of};
 use crate::due::Due;
-use crate::plan::{Action, Plan};
 use crate::preparing::{Prepared, prepare};
-use crate::solving::{Solution, solution_of};
+use crate::solving::solution_of;
 use crate::status::Status;
-use seq_inst::Verdict;
 use sig_classes::classes_of;
 use sig_figures::{figures_of, figures_text};
 use sig_flat::Flat;
 use sig_matrix::{Matrix, matrix_of, matrix_text};
 use sig_types::{ModelFault, Text};
 use std::alloc::{AllocError, Global};
+use teams_words::{Action, Plan};
 
 /// The flat model and the matrix that the bytes of a text lead to.
 #[derive(Drop)]
@@ -56,8 +56,7 @@ fn accepted_labels_print(plan: &Plan, content: &[u8], flat: &Flat, matrix: &Matr
     requires text { IsMatrixOfText content.now plan.now.mode flat.now matrix.now }
     requires valid { IsValid matrix.now }
     ensures { ArePrintable (labels_from matrix.now (mode_word plan.now.mode)) }
-{
-}
+{}
 
 /// The matrix of the text, in the plan's mode.
 pub fn accept(alloc: Global, plan: &Plan, content: &[u8]) -> Result<Accepted, ModelFault>
@@ -99,22 +98,6 @@ fn figured(
     figures_text(alloc, flat, matrix, &figures, name)
 }
 
-/// A report of an optimal strategy is Done, and one of another is Bounded.
-fn solved(solution: Solution) -> Due
-    ensures text { result.text ≡ solution.text }
-    ensures optimal { solution.verdict ≡ Verdict.Optimal → result.status ≡ Status.Done }
-    ensures bounded { solution.verdict ≡ Verdict.Bounded → result.status ≡ Status.Bounded }
-{
-    let status = match solution.verdict {
-        Verdict::Optimal => Status::Done,
-        Verdict::Bounded => Status::Bounded,
-    };
-    Due {
-        status,
-        text: solution.text,
-    }
-}
-
 /// What `solve` writes of the matrix.
 fn solve_due(alloc: Global, plan: &Plan, flat: &Flat, matrix: &Matrix) -> Result<Due, ModelFault>
     requires action { plan.now.action ≡ Action.Solve }
@@ -127,7 +110,7 @@ fn solve_due(alloc: Global, plan: &Plan, flat: &Flat, matrix: &Matrix) -> Result
     let name = mode_name(plan);
     let prepared = prepare(alloc, matrix, name)?;
     let solution = solution_of(alloc, matrix, &prepared, name, plan.groups)?;
-    Ok(solved(solution))
+    Ok(Due::of_verdict(solution.verdict, solution.text))
 }
 
 /// A text that goes with Done.
@@ -144,6 +127,7 @@ fn done(text: Vec<u8>) -> Due
 /// What an action writes of the model alone.
 fn action_due(alloc: Global, plan: &Plan, accepted: &Accepted) -> Result<Due, ModelFault>
     requires alone { plan.now.action ≢ Action.Check }
+    requires file { plan.now.action ≢ Action.Sample }
     requires limit { IsLimit plan.now.groups }
     requires flat { IsValidFlat accepted.now.flat }
     requires there { IfSome accepted.now.mode (λ m. m < length accepted.now.flat.modes) }
@@ -166,13 +150,14 @@ fn action_due(alloc: Global, plan: &Plan, accepted: &Accepted) -> Result<Due, Mo
             let text = figured(alloc, &accepted.flat, matrix, accepted.mode, name)?;
             Ok(done(text))
         }
-        Action::Check => unreachable!(),
+        Action::Check | Action::Sample => unreachable!(),
     }
 }
 
 /// What the plan asks of the model that the bytes describe, where it needs no certificate.
 pub fn answer_for(alloc: Global, plan: &Plan, content: &[u8]) -> Result<Due, ModelFault>
     requires alone { plan.now.action ≢ Action.Check }
+    requires file { plan.now.action ≢ Action.Sample }
     requires limit { IsLimit plan.now.groups }
     ensures answer { IfOk result (λ due. IsAnswer plan.now content.now due.status due.text.items) }
     ensures refused { IfErr result (TellsWhy plan.now content.now) }

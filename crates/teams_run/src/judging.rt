@@ -1,26 +1,25 @@
 //! The check of a certificate: whether its bytes are a report that shows what it says, or which line is
 //! the first bad one. Whoever made the certificate is not trusted.
-ghost use Rattle.std.specs.Prelude.{◌≡◌, ◌≤◌, ◌++◌, decimal, length, IfOk, IfErr, OnOk};
+ghost use Rattle.std.specs.Prelude.{◌≡◌, ◌≤◌, length, IfOk, IfErr, OnOk};
 ghost use Rattle.seq_theory.specs.States.{IsOfClasses};
 ghost use Rattle.seq_inst.specs.Instances.{problem_of};
 ghost use Rattle.sig_matrix.specs.Valid.{IsValid};
 ghost use Rattle.sig_matrix.specs.Detection.{system_of};
 ghost use Rattle.sig_classes.specs.Labels.{labels_from};
+ghost use Rattle.sig_lines.specs.Written.{with_line};
 ghost use Rattle.seq_cert.specs.LabelsOf.{AreLabelsOf};
-ghost use Rattle.seq_cert.specs.Text.{verdict_word};
 ghost use Rattle.seq_check.specs.Shown.{Shows};
 ghost use Rattle.teams_run.specs.Ready.{IsPrepared};
-ghost use Rattle.teams_run.specs.Judged.{IsGood, IsJudgement, ShowsStates, TellsBad, accepted_line, bad_word, rejected_line};
+ghost use Rattle.teams_run.specs.Judged.{IsGood, IsJudgement, ShowsStates, TellsBad, accepted_words, accepted_line, rejected_words, rejected_line};
 
 use crate::due::Due;
 use crate::preparing::Prepared;
-use crate::pushing::{push_decimal, push_text};
 use crate::status::Status;
-use seq_cert::{BadCode, BadLine, Report, ReportFault, read_report};
+use seq_cert::{BadLine, Report, ReportFault, read_report};
 use seq_check::check;
-use seq_inst::{Instance, Verdict};
+use seq_inst::Instance;
 use seq_theory::passage_holds;
-use sig_lines::Labels;
+use sig_lines::{Labels, Lines};
 use sig_matrix::Matrix;
 use std::alloc::{AllocError, Global};
 
@@ -52,55 +51,44 @@ fn report_stands(matrix: &Matrix, inst: &Instance, report: &Report)
     passage_holds();
 }
 
-fn verdict_word(verdict: Verdict) -> &'static str
-    ensures { result.now ≡ verdict_word verdict }
+/// Writes the line of a certificate that is accepted.
+fn write_accepted(out: &mut Lines, report: &Report) -> Result<(), AllocError>
+    ensures { OnOk result (out.new ≡ with_line out.old (accepted_words report.now)) }
 {
-    match verdict {
-        Verdict::Optimal => "optimal",
-        Verdict::Bounded => "bounded",
-    }
-}
-
-fn bad_word(code: BadCode) -> &'static str
-    ensures { result.now ≡ bad_word code }
-{
-    match code {
-        BadCode::C01 => "C01",
-        BadCode::C02 => "C02",
-        BadCode::C03 => "C03",
-        BadCode::C04 => "C04",
-        BadCode::C05 => "C05",
-        BadCode::C06 => "C06",
-        BadCode::C07 => "C07",
-        BadCode::C08 => "C08",
-        BadCode::C09 => "C09",
-    }
+    out.word("accepted")?;
+    out.word(report.verdict.word())?;
+    out.word("cost")?;
+    out.number(report.cost)?;
+    out.word("low")?;
+    out.number(report.low)?;
+    out.end_line()
 }
 
 fn accepted_line(alloc: Global, report: &Report) -> Result<Vec<u8>, AllocError>
     ensures { IfOk result (λ text. text.items ≡ accepted_line report.now) }
 {
-    let mut out = Vec::new(alloc);
-    push_text(&mut out, "accepted ")?;
-    push_text(&mut out, verdict_word(report.verdict))?;
-    push_text(&mut out, " cost ")?;
-    push_decimal(&mut out, report.cost)?;
-    push_text(&mut out, " low ")?;
-    push_decimal(&mut out, report.low)?;
-    push_text(&mut out, "\n")?;
-    Ok(out)
+    let mut out = Lines::new(alloc);
+    write_accepted(&mut out, report)?;
+    Ok(out.into_bytes())
+}
+
+/// Writes the line of a certificate that is rejected.
+fn write_rejected(out: &mut Lines, bad: BadLine) -> Result<(), AllocError>
+    ensures { OnOk result (out.new ≡ with_line out.old (rejected_words bad)) }
+{
+    out.word("rejected")?;
+    out.word("line")?;
+    out.number(u64::from(bad.line))?;
+    out.word(bad.code.word())?;
+    out.end_line()
 }
 
 fn rejected_line(alloc: Global, bad: BadLine) -> Result<Vec<u8>, AllocError>
     ensures { IfOk result (λ text. text.items ≡ rejected_line bad) }
 {
-    let mut out = Vec::new(alloc);
-    push_text(&mut out, "rejected line ")?;
-    push_decimal(&mut out, u64::from(bad.line))?;
-    push_text(&mut out, " ")?;
-    push_text(&mut out, bad_word(bad.code))?;
-    push_text(&mut out, "\n")?;
-    Ok(out)
+    let mut out = Lines::new(alloc);
+    write_rejected(&mut out, bad)?;
+    Ok(out.into_bytes())
 }
 
 /// What is due for the bytes of a certificate.

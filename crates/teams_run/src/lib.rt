@@ -7,15 +7,13 @@ mod accepting;
 mod answering;
 mod due;
 mod judging;
-mod plan;
 mod preparing;
-mod pushing;
 mod refusing;
 mod running;
+mod sampling;
 mod solving;
 mod status;
 
-pub use plan::{Action, Plan, PlanFault, plan_of};
 pub use running::{run, run_quiet};
 pub use status::Status;
 

@@ -1,156 +1,79 @@
 //! A refusal as one printed line, `refused CODE at PLACE`, where the place leads a person from the
 //! block to the key: `refused M10 at block[0].use[0].block`.
 ghost use Rattle.std.specs.Prelude.{◌≡◌, ◌++◌, OnOk, IfOk};
-ghost use Rattle.teams_run.specs.RefusalText.{code_word, counted_word, kind_word, key_word, numbered, key_step, item_step, test_step, last_step, spot_word, place_word, refusal_line};
+ghost use Rattle.std.specs.String.{string_bytes};
+ghost use Rattle.sig_lines.specs.Written.{with_line};
+ghost use Rattle.teams_run.specs.RefusalText.{numbered, key_step, item_step, test_step, last_step, spot_word, place_word, refusal_words, refusal_line};
 
-use crate::pushing::{push_decimal, push_text};
-use sig_types::{Code, Counted, Key, Kind, Place, Refusal};
+use sig_lines::Lines;
+use sig_types::{Key, Kind, Place, Refusal};
 use std::alloc::{AllocError, Global};
 
-fn code_word(code: Code) -> &'static str
-    ensures { result.now ≡ code_word code }
+/// Appends a step of a place: a word, and a number in brackets where there is one.
+fn push_numbered(out: &mut String, word: &str, number: Option<u64>) -> Result<(), AllocError>
+    ensures { OnOk result (string_bytes out.new ≡ string_bytes out.old ++ numbered word.now number) }
 {
-    match code {
-        Code::M01 => "M01",
-        Code::M02 => "M02",
-        Code::M03 => "M03",
-        Code::M04 => "M04",
-        Code::M05 => "M05",
-        Code::M06 => "M06",
-        Code::M07 => "M07",
-        Code::M08 => "M08",
-        Code::M09 => "M09",
-        Code::M10 => "M10",
-        Code::M11 => "M11",
-        Code::M12 => "M12",
-        Code::M13 => "M13",
-        Code::M14 => "M14",
-        Code::M15 => "M15",
-    }
-}
-
-fn counted_word(counted: Counted) -> &'static str
-    ensures { result.now ≡ counted_word counted }
-{
-    match counted {
-        Counted::Signals => "signals",
-        Counted::Modes => "modes",
-        Counted::Blocks => "blocks",
-        Counted::Depth => "depth",
-        Counted::Uses => "uses",
-        Counted::Nodes => "nodes",
-        Counted::Links => "links",
-        Counted::Faults => "faults",
-        Counted::Tests => "tests",
-        Counted::Classes => "classes",
-    }
-}
-
-fn kind_word(kind: Kind) -> &'static str
-    ensures { result.now ≡ kind_word kind }
-{
-    match kind {
-        Kind::Part => "part",
-        Kind::Use => "use",
-        Kind::Point => "point",
-        Kind::Link => "link",
-    }
-}
-
-fn key_word(key: Key) -> &'static str
-    ensures { result.now ≡ key_word key }
-{
-    match key {
-        Key::Version => "version",
-        Key::Good => "good",
-        Key::Top => "top",
-        Key::Signals => "signals",
-        Key::Modes => "modes",
-        Key::Block => "block",
-        Key::Name => "name",
-        Key::Ports => "ports",
-        Key::Switches => "switches",
-        Key::Part => "part",
-        Key::Use => "use",
-        Key::Point => "point",
-        Key::Link => "link",
-        Key::Functional => "functional",
-        Key::General => "general",
-        Key::Stops => "stops",
-        Key::Test => "test",
-        Key::Cost => "cost",
-        Key::Mode => "mode",
-        Key::From => "from",
-        Key::To => "to",
-    }
-}
-
-fn push_numbered(out: &mut Vec<u8>, word: &str, number: Option<u64>) -> Result<(), AllocError>
-    ensures { OnOk result (out.new.items ≡ out.old.items ++ numbered word.now number) }
-{
-    push_text(out, word)?;
-    let Some(number) = number else {
-        return Ok(());
-    };
-    push_text(out, "[")?;
-    push_decimal(out, number)?;
-    push_text(out, "]")
-}
-
-fn push_key(out: &mut Vec<u8>, key: Option<Key>, element: Option<u64>) -> Result<(), AllocError>
-    ensures { OnOk result (out.new.items ≡ out.old.items ++ key_step key element) }
-{
-    match key {
-        Some(key) => push_numbered(out, key_word(key), element),
+    out.push_str(word)?;
+    match number {
+        Some(number) => write!(out, "[{number}]"),
         None => Ok(()),
     }
 }
 
-fn push_item(out: &mut Vec<u8>, item: Option<(Kind, u64)>) -> Result<(), AllocError>
-    ensures { OnOk result (out.new.items ≡ out.old.items ++ item_step item) }
+fn push_key(out: &mut String, key: Option<Key>, element: Option<u64>) -> Result<(), AllocError>
+    ensures { OnOk result (string_bytes out.new ≡ string_bytes out.old ++ key_step key element) }
+{
+    match key {
+        Some(key) => push_numbered(out, key.word(), element),
+        None => Ok(()),
+    }
+}
+
+fn push_item(out: &mut String, item: Option<(Kind, u64)>) -> Result<(), AllocError>
+    ensures { OnOk result (string_bytes out.new ≡ string_bytes out.old ++ item_step item) }
 {
     match item {
         Some((kind, number)) => {
-            push_text(out, ".")?;
-            push_numbered(out, kind_word(kind), Some(number))
+            out.push_str(".")?;
+            push_numbered(out, kind.word(), Some(number))
         }
         None => Ok(()),
     }
 }
 
-fn push_test(out: &mut Vec<u8>, test: Option<u64>) -> Result<(), AllocError>
-    ensures { OnOk result (out.new.items ≡ out.old.items ++ test_step test) }
+fn push_test(out: &mut String, test: Option<u64>) -> Result<(), AllocError>
+    ensures { OnOk result (string_bytes out.new ≡ string_bytes out.old ++ test_step test) }
 {
     match test {
         Some(number) => {
-            push_text(out, ".")?;
+            out.push_str(".")?;
             push_numbered(out, "test", Some(number))
         }
         None => Ok(()),
     }
 }
 
-fn push_last(out: &mut Vec<u8>, key: Option<Key>, element: Option<u64>) -> Result<(), AllocError>
-    ensures { OnOk result (out.new.items ≡ out.old.items ++ last_step key element) }
+fn push_last(out: &mut String, key: Option<Key>, element: Option<u64>) -> Result<(), AllocError>
+    ensures { OnOk result (string_bytes out.new ≡ string_bytes out.old ++ last_step key element) }
 {
     match key {
         Some(key) => {
-            push_text(out, ".")?;
-            push_numbered(out, key_word(key), element)
+            out.push_str(".")?;
+            push_numbered(out, key.word(), element)
         }
         None => Ok(()),
     }
 }
 
 fn push_spot(
-    out: &mut Vec<u8>,
+    out: &mut String,
     block: Option<u64>,
     item: Option<(Kind, u64)>,
     test: Option<u64>,
     key: Option<Key>,
     element: Option<u64>,
 ) -> Result<(), AllocError>
-    ensures { OnOk result (out.new.items ≡ out.old.items ++ spot_word block item test key element) }
+    ensures { OnOk result (string_bytes out.new ≡ string_bytes out.old ++ spot_word block item test key element) }
 {
     let Some(number) = block else {
         return push_key(out, key, element);
@@ -161,14 +84,15 @@ fn push_spot(
     push_last(out, key, element)
 }
 
-fn push_place(out: &mut Vec<u8>, place: Place) -> Result<(), AllocError>
-    ensures { OnOk result (out.new.items ≡ out.old.items ++ place_word place) }
+/// Appends the word for a place.
+fn push_place(out: &mut String, place: Place) -> Result<(), AllocError>
+    ensures { OnOk result (string_bytes out.new ≡ string_bytes out.old ++ place_word place) }
 {
     match place {
-        Place::Document => push_text(out, "document"),
-        Place::States => push_text(out, "states"),
-        Place::ModeOption => push_text(out, "mode"),
-        Place::Count(counted) => push_text(out, counted_word(counted)),
+        Place::Document => out.push_str("document"),
+        Place::States => out.push_str("states"),
+        Place::ModeOption => out.push_str("mode"),
+        Place::Count(counted) => out.push_str(counted.word()),
         Place::In {
             block,
             item,
@@ -179,15 +103,20 @@ fn push_place(out: &mut Vec<u8>, place: Place) -> Result<(), AllocError>
     }
 }
 
+/// Writes the line of a refusal.
+fn write_refusal(alloc: Global, out: &mut Lines, refusal: Refusal) -> Result<(), AllocError>
+    ensures { OnOk result (out.new ≡ with_line out.old (refusal_words refusal)) }
+{
+    let mut place = String::new(alloc);
+    push_place(&mut place, refusal.place)?;
+    out.line(&["refused", refusal.code.word(), "at", place.as_str()])
+}
+
 /// The line that tells a person what is refused, and where.
 pub fn refusal_text(alloc: Global, refusal: Refusal) -> Result<Vec<u8>, AllocError>
     ensures { IfOk result (λ text. text.items ≡ refusal_line refusal) }
 {
-    let mut out = Vec::new(alloc);
-    push_text(&mut out, "refused ")?;
-    push_text(&mut out, code_word(refusal.code))?;
-    push_text(&mut out, " at ")?;
-    push_place(&mut out, refusal.place)?;
-    push_text(&mut out, "\n")?;
-    Ok(out)
+    let mut out = Lines::new(alloc);
+    write_refusal(alloc, &mut out, refusal)?;
+    Ok(out.into_bytes())
 }

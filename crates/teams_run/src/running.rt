@@ -1,58 +1,60 @@
 //! The calls that the program makes. `run` reads the words of the command line and does what they ask;
 //! `run_quiet` does what a plan asks, on one thread. A text is made whole before the first write.
-ghost use Rattle.std.specs.Prelude.{◌≡◌, ◌≢◌, ◌≤◌, ◌⊎◌, None, map, string_bytes, IfOk, IsErrOf, IsSome, length};
+//!
+//! What a run leaves behind is told by one relation, `EndsAs`: a line for each status, with its cause.
+ghost use Rattle.std.specs.Prelude.{◌≡◌, ◌≢◌, map, string_bytes, Ok, IfOk, IfErr, IsErrOf, IsSome};
 ghost use Rattle.sig_edge.specs.Causes.{Rose};
-ghost use Rattle.sig_edge.specs.Shelf.{HoldsNone, HoldsLonger};
-ghost use Rattle.teams_run.specs.Plans.{plan_of};
+ghost use Rattle.sig_edge.specs.Shelf.{Holds, HoldsNone, HoldsLonger};
+ghost use Rattle.teams_words.specs.Plans.{plan_of, IsProper};
 ghost use Rattle.teams_run.specs.RefusalText.{refusal_line};
 ghost use Rattle.teams_run.specs.Texts.{IsDue, IsFit, cert_limit, cert_name};
-ghost use Rattle.teams_run.specs.Runs.{IsDueText, WritesDue, WritesPart, IsSilent, IsProper, ForPlan, HasLongFile, LacksFile};
+ghost use Rattle.teams_run.specs.Runs.{moment, EndsAs, EndsFor, IsDueText, WantsModel, HasLongFile, LacksFile};
 
 use crate::answering::{answer_for, mode_name, prepared_for};
 use crate::due::Due;
 use crate::judging::judgement_on;
-use crate::plan::{Action, Plan, PlanFault, plan_of};
 use crate::refusing::refusal_text;
+use crate::sampling::sample_due;
 use crate::status::Status;
 use sig_edge::{FetchFault, Shelf, Sink, fetch, put_all};
 use sig_types::{ModelFault, Refusal};
-use std::alloc::Global;
+use std::alloc::{AllocError, Global};
+use teams_words::{Action, Plan, PlanFault, plan_of};
 
 /// The line of a refusal.
-fn refused(alloc: Global, refusal: Refusal) -> Result<Due, FetchFault>
+fn refused(alloc: Global, refusal: Refusal) -> Result<Due, AllocError>
     ensures status { IfOk result (λ due. due.status ≡ Status.ModelRefused) }
     ensures line { IfOk result (λ due. due.text.items ≡ refusal_line refusal) }
-    ensures missing { IsErrOf result FetchFault.Missing → ⊥ }
-    ensures failed { IsErrOf result FetchFault.Failed → ⊥ }
-    ensures too_long { IsErrOf result FetchFault.TooLong → ⊥ }
 {
-    match refusal_text(alloc, refusal) {
-        Ok(text) => Ok(Due {
-            status: Status::ModelRefused,
-            text,
-        }),
-        Err(_) => Err(FetchFault::OutOfMemory),
-    }
+    let text = refusal_text(alloc, refusal)?;
+    Ok(Due {
+        status: Status::ModelRefused,
+        text,
+    })
 }
 
-/// What is due where the plan needs no certificate.
-fn answer_due<D: Shelf>(
-    alloc: Global,
-    plan: &Plan,
-    content: &[u8],
-    shelf: &D,
-) -> Result<Due, FetchFault>
+/// What is due where the plan needs no certificate, whatever files are held.
+fn answer_due(alloc: Global, plan: &Plan, content: &[u8]) -> Result<Due, AllocError>
     requires proper { IsProper plan.now }
     requires alone { plan.now.action ≢ Action.Check }
-    ensures due { IfOk result (λ due. IsDue plan.now (D.holds shelf.now) content.now due.status due.text.items) }
-    ensures missing { IsErrOf result FetchFault.Missing → ⊥ }
-    ensures failed { IsErrOf result FetchFault.Failed → ⊥ }
-    ensures too_long { IsErrOf result FetchFault.TooLong → ⊥ }
+    requires file { WantsModel plan.now }
+    ensures { IfOk result (λ due. (holds : Holds) → IsDue plan.now holds content.now due.status due.text.items) }
 {
     match answer_for(alloc, plan, content) {
         Ok(due) => Ok(due),
         Err(ModelFault::Refused(refusal)) => refused(alloc, refusal),
-        Err(ModelFault::OutOfMemory) => Err(FetchFault::OutOfMemory),
+        Err(ModelFault::OutOfMemory) => Err(AllocError),
+    }
+}
+
+/// Where no file was fetched, only memory can fail.
+fn in_memory(due: Result<Due, AllocError>) -> Result<Due, FetchFault>
+    ensures due { IfOk result (λ found. due ≡ Ok found) }
+    ensures fault { IfErr result (λ fault. fault ≡ FetchFault.OutOfMemory) }
+{
+    match due {
+        Ok(due) => Ok(due),
+        Err(_) => Err(FetchFault::OutOfMemory),
     }
 }
 
@@ -85,20 +87,18 @@ fn check_due<D: Shelf>(
 {
     let (accepted, prepared) = match prepared_for(alloc, plan, content) {
         Ok(both) => both,
-        Err(ModelFault::Refused(refusal)) => return refused(alloc, refusal),
+        Err(ModelFault::Refused(refusal)) => return in_memory(refused(alloc, refusal)),
         Err(ModelFault::OutOfMemory) => return Err(FetchFault::OutOfMemory),
     };
     let cert = fetch(alloc, shelf, cert_name(plan), 16_777_216)?;
     let mode = mode_name(plan);
-    match judgement_on(alloc, &accepted.matrix, &prepared, mode, cert.as_slice()) {
-        Ok(due) => Ok(due),
-        Err(_) => Err(FetchFault::OutOfMemory),
-    }
+    in_memory(judgement_on(alloc, &accepted.matrix, &prepared, mode, cert.as_slice()))
 }
 
-/// What is due for the files that the shelf holds.
-fn due_for<D: Shelf>(alloc: Global, plan: &Plan, shelf: &mut D) -> Result<Due, FetchFault>
+/// What is due for the model's file that the shelf holds.
+fn file_due<D: Shelf>(alloc: Global, plan: &Plan, shelf: &mut D) -> Result<Due, FetchFault>
     requires proper { IsProper plan.now }
+    requires file { WantsModel plan.now }
     ensures due { IfOk result (λ due. IsDueText plan.now (D.holds shelf.old) due.status due.text.items) }
     ensures missing { IsErrOf result FetchFault.Missing → Rose (D.misses shelf.old) (D.misses shelf.new) × LacksFile plan.now (D.holds shelf.old) }
     ensures failed { IsErrOf result FetchFault.Failed → Rose (D.faults shelf.old) (D.faults shelf.new) }
@@ -109,7 +109,23 @@ fn due_for<D: Shelf>(alloc: Global, plan: &Plan, shelf: &mut D) -> Result<Due, F
     if plan.action == Action::Check {
         check_due(alloc, plan, content.as_slice(), shelf)
     } else {
-        answer_due(alloc, plan, content.as_slice(), shelf)
+        in_memory(answer_due(alloc, plan, content.as_slice()))
+    }
+}
+
+/// What is due for the plan: for the chain of `sample`, which takes no file, or for a file.
+fn due_for<D: Shelf>(alloc: Global, plan: &Plan, shelf: &mut D) -> Result<Due, FetchFault>
+    requires { IsProper plan.now }
+    ensures due { IfOk result (λ due. IsDueText plan.now (D.holds shelf.old) due.status due.text.items) }
+    ensures missing { IsErrOf result FetchFault.Missing → WantsModel plan.now × Rose (D.misses shelf.old) (D.misses shelf.new) × LacksFile plan.now (D.holds shelf.old) }
+    ensures failed { IsErrOf result FetchFault.Failed → WantsModel plan.now × Rose (D.faults shelf.old) (D.faults shelf.new) }
+    ensures too_long { IsErrOf result FetchFault.TooLong → WantsModel plan.now × HasLongFile plan.now (D.holds shelf.old) }
+    ensures same { D.holds shelf.new ≡ D.holds shelf.old }
+{
+    if plan.action == Action::Sample {
+        in_memory(sample_due(alloc, plan))
+    } else {
+        file_due(alloc, plan, shelf)
     }
 }
 
@@ -121,23 +137,7 @@ pub fn run_quiet<D: Shelf, K: Sink>(
     sink: &mut K,
 ) -> Status
     requires { IsProper plan.now }
-
-    // What is written.
-    ensures done { result ≡ Status.Done → WritesDue plan.now (D.holds shelf.old) (K.wrote sink.old) (K.wrote sink.new) Status.Done }
-    ensures bounded { result ≡ Status.Bounded → WritesDue plan.now (D.holds shelf.old) (K.wrote sink.old) (K.wrote sink.new) Status.Bounded }
-    ensures rejected { result ≡ Status.Rejected → WritesDue plan.now (D.holds shelf.old) (K.wrote sink.old) (K.wrote sink.new) Status.Rejected }
-    ensures refused { result ≡ Status.ModelRefused → WritesDue plan.now (D.holds shelf.old) (K.wrote sink.old) (K.wrote sink.new) Status.ModelRefused }
-    ensures cut_off { result ≡ Status.WriteFault → WritesPart plan.now (D.holds shelf.old) (K.wrote sink.old) (K.wrote sink.new) }
-    ensures silent { IsSilent result → K.wrote sink.new ≡ K.wrote sink.old }
-
-    // Why it ended otherwise.
-    ensures missing { result ≡ Status.Missing → Rose (D.misses shelf.old) (D.misses shelf.new) × LacksFile plan.now (D.holds shelf.old) }
-    ensures read_fault { result ≡ Status.ReadFault → Rose (D.faults shelf.old) (D.faults shelf.new) }
-    ensures too_long { result ≡ Status.TooLong → HasLongFile plan.now (D.holds shelf.old) }
-    ensures write_fault { result ≡ Status.WriteFault → Rose (K.faults sink.old) (K.faults sink.new) }
-    ensures never_usage { result ≢ Status.Usage }
-
-    // What stays.
+    ensures ends { EndsAs plan.now (moment (D.holds shelf.old) (D.misses shelf.old) (D.faults shelf.old) (K.wrote sink.old) (K.faults sink.old)) (moment (D.holds shelf.new) (D.misses shelf.new) (D.faults shelf.new) (K.wrote sink.new) (K.faults sink.new)) result }
     ensures same { D.holds shelf.new ≡ D.holds shelf.old }
 {
     let due = match due_for(alloc, plan, shelf) {
@@ -160,23 +160,7 @@ pub fn run<D: Shelf, K: Sink>(
     shelf: &mut D,
     sink: &mut K,
 ) -> Status
-    // What is written, for the plan that the words give.
-    ensures done { result ≡ Status.Done → ForPlan (plan_of (map string_bytes words.now)) (λ plan. WritesDue plan (D.holds shelf.old) (K.wrote sink.old) (K.wrote sink.new) Status.Done) }
-    ensures bounded { result ≡ Status.Bounded → ForPlan (plan_of (map string_bytes words.now)) (λ plan. WritesDue plan (D.holds shelf.old) (K.wrote sink.old) (K.wrote sink.new) Status.Bounded) }
-    ensures rejected { result ≡ Status.Rejected → ForPlan (plan_of (map string_bytes words.now)) (λ plan. WritesDue plan (D.holds shelf.old) (K.wrote sink.old) (K.wrote sink.new) Status.Rejected) }
-    ensures refused { result ≡ Status.ModelRefused → ForPlan (plan_of (map string_bytes words.now)) (λ plan. WritesDue plan (D.holds shelf.old) (K.wrote sink.old) (K.wrote sink.new) Status.ModelRefused) }
-    ensures cut_off { result ≡ Status.WriteFault → ForPlan (plan_of (map string_bytes words.now)) (λ plan. WritesPart plan (D.holds shelf.old) (K.wrote sink.old) (K.wrote sink.new)) }
-    ensures silent { IsSilent result → K.wrote sink.new ≡ K.wrote sink.old }
-
-    // Why it ended otherwise.
-    ensures usage { result ≡ Status.Usage → plan_of (map string_bytes words.now) ≡ None }
-    ensures only_usage { plan_of (map string_bytes words.now) ≡ None → (result ≡ Status.Usage) ⊎ (result ≡ Status.NoMemory) }
-    ensures missing { result ≡ Status.Missing → Rose (D.misses shelf.old) (D.misses shelf.new) × ForPlan (plan_of (map string_bytes words.now)) (λ plan. LacksFile plan (D.holds shelf.old)) }
-    ensures read_fault { result ≡ Status.ReadFault → Rose (D.faults shelf.old) (D.faults shelf.new) }
-    ensures too_long { result ≡ Status.TooLong → ForPlan (plan_of (map string_bytes words.now)) (λ plan. HasLongFile plan (D.holds shelf.old)) }
-    ensures write_fault { result ≡ Status.WriteFault → Rose (K.faults sink.old) (K.faults sink.new) }
-
-    // What stays.
+    ensures ends { EndsFor (plan_of (map string_bytes words.now)) (moment (D.holds shelf.old) (D.misses shelf.old) (D.faults shelf.old) (K.wrote sink.old) (K.faults sink.old)) (moment (D.holds shelf.new) (D.misses shelf.new) (D.faults shelf.new) (K.wrote sink.new) (K.faults sink.new)) result }
     ensures same { D.holds shelf.new ≡ D.holds shelf.old }
 {
     match plan_of(alloc, words) {

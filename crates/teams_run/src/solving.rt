@@ -1,16 +1,17 @@
 //! From the instance of a system to the report of a strategy: the search, its outcome and its text. The
 //! search works on ambiguity groups; what is promised speaks of single states, and the theory's passage
 //! from the one to the other joins the two.
-ghost use Rattle.std.specs.Prelude.{IfOk};
-ghost use Rattle.seq_theory.specs.States.{IsOfClasses};
+ghost use Rattle.std.specs.Prelude.{◌≤◌, length, IfOk};
+ghost use Rattle.seq_theory.specs.States.{IsOfClasses, firsts};
 ghost use Rattle.seq_inst.specs.Instances.{problem_of};
 ghost use Rattle.sig_matrix.specs.Valid.{IsValid};
 ghost use Rattle.sig_matrix.specs.Detection.{system_of};
 ghost use Rattle.sig_classes.specs.Labels.{labels_from};
 ghost use Rattle.seq_finish.specs.Outcomes.{IsRightOutcome};
 ghost use Rattle.seq_shown.specs.Laws.{ArePrintable};
+ghost use Rattle.teams_words.specs.Plans.{IsLimit};
 ghost use Rattle.teams_run.specs.Ready.{IsPrepared};
-ghost use Rattle.teams_run.specs.Solved.{IsSolution, Stands, IsLimit};
+ghost use Rattle.teams_run.specs.Solved.{IsSolution, IsSolved, Stands};
 
 use crate::preparing::Prepared;
 use seq_cert::report_of;
@@ -42,6 +43,25 @@ fn outcome_stands(matrix: &Matrix, inst: &Instance, outcome: &Outcome, groups: u
     outcomes_hold();
 }
 
+/// What a search on one thread comes to, over the ambiguity groups of the matrix.
+pub fn outcome_of(
+    alloc: Global,
+    matrix: &Matrix,
+    inst: &Instance,
+    groups: u32,
+) -> Result<Outcome, AllocError>
+    requires valid { IsValid matrix.now }
+    requires few { length (firsts (system_of matrix.now)) ≤ 512 }
+    requires classes { IsOfClasses (system_of matrix.now) (problem_of inst.now) }
+    requires limit { IsLimit groups }
+    ensures { IfOk result (IsSolved (system_of matrix.now) (problem_of inst.now) groups) }
+{
+    let Walked { graph, missed } = walk(alloc, inst, groups)?;
+    let outcome = finish_graph(alloc, inst, groups, graph, missed)?;
+    outcome_stands(matrix, inst, &outcome, groups);
+    Ok(outcome)
+}
+
 /// The report of a strategy for the system of the matrix.
 pub fn solution_of(
     alloc: Global,
@@ -56,9 +76,7 @@ pub fn solution_of(
     requires limit { IsLimit groups }
     ensures { IfOk result (λ s. IsSolution (system_of matrix.now) (labels_from matrix.now mode.now) groups s.verdict s.text.items) }
 {
-    let Walked { graph, missed } = walk(alloc, &prepared.inst, groups)?;
-    let outcome = finish_graph(alloc, &prepared.inst, groups, graph, missed)?;
-    outcome_stands(matrix, &prepared.inst, &outcome, groups);
+    let outcome = outcome_of(alloc, matrix, &prepared.inst, groups)?;
     reports_hold();
     outcomes_print();
     let text = report_of(alloc, &prepared.inst, &outcome, &prepared.labels)?;

@@ -1,13 +1,10 @@
 //! The rules of a block, in the order in which they are looked at: names that repeat, then parts, uses, tests and links.
 //! A block is checked on its own; of other blocks only the names and the ports count.
-ghost use Rattle.std.specs.Prelude.{◌≡◌, None};
-ghost use Rattle.sig_types.specs.Breaches.{block_breaches, each, functional_signals, in_test, mode_breaches, named, part_breaches, repeats, test_breaches, unknown_among, use_breaches};
+ghost use Rattle.std.specs.Prelude.{◌≡◌};
+ghost use Rattle.sig_types.specs.Breaches.{block_breaches, contents_breaches, each, functional_signals, mode_breaches, part_breaches, repeated_tests, test_breaches, unknown_among, use_breaches};
 ghost use Rattle.sig_types.specs.Spots.{element_place};
-ghost use Rattle.sig_types.specs.Parts.{contents_breaches};
 ghost use Rattle.sig_types.specs.Refused.{IsVerdict};
 ghost use Rattle.sig_types.specs.declared.model.Point.{Point};
-ghost use Rattle.sig_types.specs.declared.model.Test.{Test};
-ghost use Rattle.sig_types.specs.declared.refusals.Key.TheVariants.{Name as NameKey};
 
 use crate::check::index::Index;
 use crate::check::link::check_links;
@@ -21,7 +18,7 @@ use std::alloc::Global;
 
 /// Looks for names that repeat among the tests of a point.
 fn check_test_names(alloc: Global, block: u64, points: &[Point]) -> Result<(), ModelFault>
-    ensures { IsVerdict (each (λ p (point : Point). repeats (each (λ t (test : Test). named test.name (in_test block p t NameKey None)) point.tests)) points.now) result }
+    ensures { IsVerdict (repeated_tests block points.now) result }
 {
     for (p, point) in points.iter().enumerate() {
         let spot = Spot::block(block).item(Kind::Point, p as u64);

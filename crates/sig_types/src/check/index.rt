@@ -3,8 +3,7 @@
 ghost use Rattle.std.specs.Prelude.{◌≡◌, [], codes, map, is_some, position, IfOk, OnOk};
 ghost use Rattle.std.specs.Str.{bytes_eq};
 ghost use Rattle.indexmap.specs.IndexSet.{insert_all};
-ghost use Rattle.sig_types.specs.Breaches.{block_names, has, has_port, known_modes, or_normal};
-ghost use Rattle.sig_types.specs.Parts.{repeated_at_top};
+ghost use Rattle.sig_types.specs.Breaches.{block_names, has, has_port, known_modes, or_normal, repeated_at_top};
 ghost use Rattle.sig_types.specs.Refused.{IsVerdict};
 ghost use Rattle.sig_types.specs.Symbols.{AreSymbolsOf};
 

@@ -3,7 +3,7 @@ use Rattle.sig_lines.specs.Written.{Written, with_lines}
 use Rattle.seq_inst.specs.Instances.{problem_of}
 use Rattle.seq_cert.specs.Text.{report_lines}
 use Rattle.seq_cert.specs.OutcomeReport.{report_from}
-use Rattle.seq_cert.proofs.WrittenForm.{sized, weighed, written_form}
+use Rattle.seq_cert.proofs.WrittenForm.{written_form}
 use Rattle.seq_cert.proofs.outcome_report.report_of.Goals as goal
 
 pub returns-clause-text : goal.returns-clause-text
@@ -14,4 +14,4 @@ returns-clause-text c =
 pub returns-clause-form : goal.returns-clause-form
 returns-clause-form c = λ fits.
     let inst = c.args.inst.now in
-    written_form (problem_of inst) c.args.outcome.now c.args.labels.now (sized inst) (weighed inst) (inst.valid).some (inst.valid).tests c.requires.labels c.requires.there c.in_ok-write_report.ensures.numbers fits
+    written_form (problem_of inst) c.args.outcome.now c.args.labels.now (inst.stands).sized (inst.stands).weighed (inst.valid).some (inst.valid).tests c.requires.labels c.requires.there c.in_ok-write_report.ensures.numbers fits

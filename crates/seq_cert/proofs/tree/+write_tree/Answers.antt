@@ -43,4 +43,4 @@ returns-in_ok-write_tree-in-Ask-2 t c =
     let failing = map tree_words (tree_lines p fail (members c.part-in-Ask.result)) in
     c.in_ok-write_tree-in-Ask-2.ensures ∙ ap (λ w. with_lines w failing) (c.in_ok-write_tree-in-Ask.ensures ∙ ap (λ w. with_lines w passing) c.in_ok-write_ask-in-Ask.ensures)
     ∙ sym (fold-append with_line out (first ∷ passing) failing)
-    ∙ ap (with_lines out) (ask_lines p c.in-Ask.test pass fail (tree_of c.args.strategy.now) (members c.args.group.now) (members c.part.result) (members c.part-in-Ask.result) is c.part.ensures c.part-in-Ask.ensures)
+    ∙ ap (with_lines out) (ask_lines p c.in-Ask.test pass fail (tree_of c.args.strategy.now) (members c.args.group.now) (members c.part.result) (members c.part-in-Ask.result) is c.part.ensures.classes c.part-in-Ask.ensures.classes)

@@ -1,13 +1,9 @@
-use Rattle.std.proofs.Common.{sym, ◌∙◌}
-use Rattle.seq_inst.proofs.MembersLaws.{members_below-zero, members_below-out}
-use Rattle.seq_cert.proofs.TreeText.{lowest_is}
+use Rattle.std.proofs.Common.{arith}
+use Rattle.seq_cert.proofs.TreeText.{lowest_some, lowest_none}
 use Rattle.seq_cert.proofs.tree.lowest_class.Goals as goal
 
-pub loop-class-init : goal.loop-class-init
-loop-class-init c = members_below-zero c.args.group.now
+pub returns-in-Some : goal.returns-in-Some
+returns-in-Some c = lowest_some c.args.group.now c.first_from.result c.in-Some.class (c.first_from.ensures.step (omega arith)) c.in-Some.is
 
-pub loop-class-preserved : goal.loop-class-preserved
-loop-class-preserved c = members_below-out c.args.group.now c.loop-class.class (sym c.has.ensures ∙ c.if-has.false) ∙ c.loop-class.invariant
-
-pub returns-then-has : goal.returns-then-has
-returns-then-has c = lowest_is c.args.group.now c.loop-class.class (sym c.has.ensures ∙ c.if-has.true) c.loop-class.invariant c.loop-class-test.true
+pub returns-in-None : goal.returns-in-None
+returns-in-None c = lowest_none c.args.group.now c.first_from.result (c.first_from.ensures.step (omega arith)) c.in-None.is

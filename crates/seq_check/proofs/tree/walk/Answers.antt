@@ -10,7 +10,7 @@ use Rattle.seq_check.proofs.tree.walk.Goals as goal
 pub loop-at-init : goal.loop-at-init
 loop-at-init c =
     let is : c.push.new.self.items ≡ c.root.result ∷ [] = c.in_ok-push.ensures.items ∙ ap (λ (l : List Group). l ++ c.root.result ∷ []) c.new-stack.ensures.items in
-    walk_starts (problem_of c.args.inst.now) c.args.line c.args.tree.now c.push.new.self.items c.root.result is c.root.ensures
+    walk_starts (problem_of c.args.inst.now) c.args.line c.args.tree.now c.push.new.self.items c.root.result is c.root.ensures.classes
 
 pub returns-in-None : goal.returns-in-None
 returns-in-None c =

@@ -4,7 +4,7 @@ use Rattle.seq_inst.proofs.WithinLaws.{within-pass, within-fail}
 use Rattle.seq_core.proofs.kept.split_by.Goals as goal
 
 pub number_of-requires-clause-within : goal.number_of-requires-clause-within
-number_of-requires-clause-within c = within-pass (problem_of c.args.inst.now) (members c.args.group.now) (members c.part-pass_part.result) c.args.test c.requires.within c.part-pass_part.ensures
+number_of-requires-clause-within c = within-pass (problem_of c.args.inst.now) (members c.args.group.now) (members c.part-pass_part.result) c.args.test c.requires.within c.part-pass_part.ensures.classes
 
 pub number_of-requires-2-clause-within : goal.number_of-requires-2-clause-within
-number_of-requires-2-clause-within c = within-fail (problem_of c.args.inst.now) (members c.args.group.now) (members c.part-fail_part.result) c.args.test c.requires.within c.part-fail_part.ensures
+number_of-requires-2-clause-within c = within-fail (problem_of c.args.inst.now) (members c.args.group.now) (members c.part-fail_part.result) c.args.test c.requires.within c.part-fail_part.ensures.classes

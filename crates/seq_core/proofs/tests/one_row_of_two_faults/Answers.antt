@@ -7,10 +7,10 @@ use Rattle.seq_core.proofs.ExampleLaws.{two_root, two_part}
 use Rattle.seq_core.proofs.tests.one_row_of_two_faults.Goals as goal
 
 pub step-entered-requires-clause-real : goal.step-entered-requires-clause-real
-step-entered-requires-clause-real g c = two_root c.in_ok-inst.inst (members c.root-all.result) c.in_ok-inst.ensures c.root-all.ensures
+step-entered-requires-clause-real g c = two_root c.in_ok-inst.inst (members c.root-all.result) c.in_ok-inst.ensures c.root-all.ensures.classes
 
 pub step-second-requires-clause-real : goal.step-second-requires-clause-real
-step-second-requires-clause-real g c = two_part c.in_ok-inst.inst (members c.root-all.result) (members c.part-passing.result) c.in_ok-inst.ensures c.root-all.ensures c.part-passing.ensures
+step-second-requires-clause-real g c = two_part c.in_ok-inst.inst (members c.root-all.result) (members c.part-passing.result) c.in_ok-inst.ensures c.root-all.ensures.classes c.part-passing.ensures.classes
 
 pub lows-requires : goal.lows-requires
 lows-requires g c =

@@ -7,10 +7,10 @@ use Rattle.seq_core.proofs.ExampleLaws.{star_root, star_part}
 use Rattle.seq_core.proofs.tests.two_rows_of_a_star.Goals as goal
 
 pub step-first-requires-clause-real : goal.step-first-requires-clause-real
-step-first-requires-clause-real g c = star_root c.in_ok-inst.inst (members c.root-all.result) c.in_ok-inst.ensures c.root-all.ensures
+step-first-requires-clause-real g c = star_root c.in_ok-inst.inst (members c.root-all.result) c.in_ok-inst.ensures c.root-all.ensures.classes
 
 pub step-second-requires-clause-real : goal.step-second-requires-clause-real
-step-second-requires-clause-real g c = star_part c.in_ok-inst.inst (members c.root-all.result) (members c.part-passing.result) c.in_ok-inst.ensures c.root-all.ensures c.part-passing.ensures
+step-second-requires-clause-real g c = star_part c.in_ok-inst.inst (members c.root-all.result) (members c.part-passing.result) c.in_ok-inst.ensures c.root-all.ensures.classes c.part-passing.ensures.classes
 
 pub settle-requires-clause-groups : goal.settle-requires-clause-groups
 settle-requires-clause-groups g c =

@@ -41,14 +41,14 @@ strategy_of-requires-clause-settled c =
     subst (λ l. All (IsSettled p (groups_in l)) l) (sym same) (settled-all p c.args.limit c.args.rows.items c.requires.sound)
 
 pub strategy_of-requires-clause-within : goal.strategy_of-requires-clause-within
-strategy_of-requires-clause-within c = within-all (problem_of c.args.inst.now) _ c.root-all.ensures
+strategy_of-requires-clause-within c = within-all (problem_of c.args.inst.now) _ c.root-all.ensures.classes
 
 pub strategy_of-requires-clause-valued : goal.strategy_of-requires-clause-valued
 strategy_of-requires-clause-valued c =
     let p = problem_of c.args.inst.now in
     let same : c.as_slice-2.result.now ≡ settled_rows p c.args.rows.items = c.as_slice-2.ensures.value ∙ c.requires.settled in
     subst (λ g. IsSome (val p g (members c.root-all.result))) (sym (ap groups_in same ∙ settled-entered p c.args.rows.items))
-    (subst (λ g. IsSome (val p (groups_in c.args.rows.items) g)) (sym c.root-all.ensures) (root-valued p (groups_in c.args.rows.items) c.requires.root))
+    (subst (λ g. IsSome (val p (groups_in c.args.rows.items) g)) (sym c.root-all.ensures.classes) (root-valued p (groups_in c.args.rows.items) c.requires.root))
 
 pub bounds_of-bounds-requires-clause-settled : goal.bounds_of-bounds-requires-clause-settled
 bounds_of-bounds-requires-clause-settled c =
@@ -61,7 +61,7 @@ bounds_of-bounds-requires-clause-valued c =
     let p = problem_of c.args.inst.now in
     let same : c.as_slice-3.result.now ≡ settled_rows p c.args.rows.items = c.as_slice-3.ensures.value ∙ c.requires.settled in
     subst (λ g. IsSome (val p g (members c.root-all.result))) (sym (ap groups_in same ∙ settled-entered p c.args.rows.items))
-    (subst (λ g. IsSome (val p (groups_in c.args.rows.items) g)) (sym c.root-all.ensures) (root-valued p (groups_in c.args.rows.items) c.requires.root))
+    (subst (λ g. IsSome (val p (groups_in c.args.rows.items) g)) (sym c.root-all.ensures.classes) (root-valued p (groups_in c.args.rows.items) c.requires.root))
 
 pub returns-clause-proper : goal.returns-clause-proper
 returns-clause-proper c =
@@ -70,8 +70,8 @@ returns-clause-proper c =
     let items : rows ≡ settled_rows p rows = c.requires.settled in
     let same3 : groups_in c.as_slice-3.result.now ≡ groups_in rows = ap groups_in (c.as_slice-3.ensures.value ∙ items) ∙ settled-entered p rows in
     outcome-proper c.args.inst.now (groups_in rows) c.bounds_of-bounds.result.low c.bounds_of-bounds.result.cost
-    (c.bounds_of-bounds.ensures.low ∙ ap (λ g. low p g (members c.root-all.result)) same3 ∙ ap (low p (groups_in rows)) c.root-all.ensures)
-    (sym (ap (λ g. val p g (members c.root-all.result)) same3 ∙ ap (val p (groups_in rows)) c.root-all.ensures) ∙ c.bounds_of-bounds.ensures.cost)
+    (c.bounds_of-bounds.ensures.low ∙ ap (λ g. low p g (members c.root-all.result)) same3 ∙ ap (low p (groups_in rows)) c.root-all.ensures.classes)
+    (sym (ap (λ g. val p g (members c.root-all.result)) same3 ∙ ap (val p (groups_in rows)) c.root-all.ensures.classes) ∙ c.bounds_of-bounds.ensures.cost)
 
 pub returns-clause-there : goal.returns-clause-there
 returns-clause-there c =
@@ -79,7 +79,7 @@ returns-clause-there c =
     let rows = c.args.rows.items in
     let items : rows ≡ settled_rows p rows = c.requires.settled in
     let same2 : groups_in c.as_slice-2.result.now ≡ groups_in rows = ap groups_in (c.as_slice-2.ensures.value ∙ items) ∙ settled-entered p rows in
-    (outcome-shape c.args.inst.now (groups_in rows) (tree_of c.in_ok-strategy.strategy) c.requires.root (c.in_ok-strategy.ensures.strategy ∙ ap (λ g. strat p g (members c.root-all.result)) same2 ∙ ap (strat p (groups_in rows)) c.root-all.ensures)).there
+    (outcome-shape c.args.inst.now (groups_in rows) (tree_of c.in_ok-strategy.strategy) c.requires.root (c.in_ok-strategy.ensures.strategy ∙ ap (λ g. strat p g (members c.root-all.result)) same2 ∙ ap (strat p (groups_in rows)) c.root-all.ensures.classes)).there
 
 pub returns-clause-right : goal.returns-clause-right
 returns-clause-right c =
@@ -89,9 +89,9 @@ returns-clause-right c =
     let same2 : groups_in c.as_slice-2.result.now ≡ groups_in rows = ap groups_in (c.as_slice-2.ensures.value ∙ items) ∙ settled-entered p rows in
     let same3 : groups_in c.as_slice-3.result.now ≡ groups_in rows = ap groups_in (c.as_slice-3.ensures.value ∙ items) ∙ settled-entered p rows in
     outcome-right p c.args.limit rows c.args.missed _ c.requires.sound c.requires.root c.requires.stopped items
-    (c.in_ok-strategy.ensures.strategy ∙ ap (λ g. strat p g (members c.root-all.result)) same2 ∙ ap (strat p (groups_in rows)) c.root-all.ensures)
-    (sym (ap (λ g. val p g (members c.root-all.result)) same3 ∙ ap (val p (groups_in rows)) c.root-all.ensures) ∙ c.bounds_of-bounds.ensures.cost)
-    (c.bounds_of-bounds.ensures.low ∙ ap (λ g. low p g (members c.root-all.result)) same3 ∙ ap (low p (groups_in rows)) c.root-all.ensures)
+    (c.in_ok-strategy.ensures.strategy ∙ ap (λ g. strat p g (members c.root-all.result)) same2 ∙ ap (strat p (groups_in rows)) c.root-all.ensures.classes)
+    (sym (ap (λ g. val p g (members c.root-all.result)) same3 ∙ ap (val p (groups_in rows)) c.root-all.ensures.classes) ∙ c.bounds_of-bounds.ensures.cost)
+    (c.bounds_of-bounds.ensures.low ∙ ap (λ g. low p g (members c.root-all.result)) same3 ∙ ap (low p (groups_in rows)) c.root-all.ensures.classes)
     refl c.verdict_of-verdict.ensures.0 c.verdict_of-verdict.ensures.1 c.still_missed.ensures.optimal c.still_missed.ensures.bounded
 
 pub returns-clause-splitting : goal.returns-clause-splitting
@@ -100,7 +100,7 @@ returns-clause-splitting c =
     let rows = c.args.rows.items in
     let items : rows ≡ settled_rows p rows = c.requires.settled in
     let same2 : groups_in c.as_slice-2.result.now ≡ groups_in rows = ap groups_in (c.as_slice-2.ensures.value ∙ items) ∙ settled-entered p rows in
-    (outcome-shape c.args.inst.now (groups_in rows) (tree_of c.in_ok-strategy.strategy) c.requires.root (c.in_ok-strategy.ensures.strategy ∙ ap (λ g. strat p g (members c.root-all.result)) same2 ∙ ap (strat p (groups_in rows)) c.root-all.ensures)).splitting
+    (outcome-shape c.args.inst.now (groups_in rows) (tree_of c.in_ok-strategy.strategy) c.requires.root (c.in_ok-strategy.ensures.strategy ∙ ap (λ g. strat p g (members c.root-all.result)) same2 ∙ ap (strat p (groups_in rows)) c.root-all.ensures.classes)).splitting
 
 pub returns-clause-leaves : goal.returns-clause-leaves
 returns-clause-leaves c =
@@ -108,7 +108,7 @@ returns-clause-leaves c =
     let rows = c.args.rows.items in
     let items : rows ≡ settled_rows p rows = c.requires.settled in
     let same2 : groups_in c.as_slice-2.result.now ≡ groups_in rows = ap groups_in (c.as_slice-2.ensures.value ∙ items) ∙ settled-entered p rows in
-    (outcome-shape c.args.inst.now (groups_in rows) (tree_of c.in_ok-strategy.strategy) c.requires.root (c.in_ok-strategy.ensures.strategy ∙ ap (λ g. strat p g (members c.root-all.result)) same2 ∙ ap (strat p (groups_in rows)) c.root-all.ensures)).leaves
+    (outcome-shape c.args.inst.now (groups_in rows) (tree_of c.in_ok-strategy.strategy) c.requires.root (c.in_ok-strategy.ensures.strategy ∙ ap (λ g. strat p g (members c.root-all.result)) same2 ∙ ap (strat p (groups_in rows)) c.root-all.ensures.classes)).leaves
 
 pub returns-clause-short : goal.returns-clause-short
 returns-clause-short c =
@@ -116,7 +116,7 @@ returns-clause-short c =
     let rows = c.args.rows.items in
     let items : rows ≡ settled_rows p rows = c.requires.settled in
     let same2 : groups_in c.as_slice-2.result.now ≡ groups_in rows = ap groups_in (c.as_slice-2.ensures.value ∙ items) ∙ settled-entered p rows in
-    (outcome-shape c.args.inst.now (groups_in rows) (tree_of c.in_ok-strategy.strategy) c.requires.root (c.in_ok-strategy.ensures.strategy ∙ ap (λ g. strat p g (members c.root-all.result)) same2 ∙ ap (strat p (groups_in rows)) c.root-all.ensures)).short
+    (outcome-shape c.args.inst.now (groups_in rows) (tree_of c.in_ok-strategy.strategy) c.requires.root (c.in_ok-strategy.ensures.strategy ∙ ap (λ g. strat p g (members c.root-all.result)) same2 ∙ ap (strat p (groups_in rows)) c.root-all.ensures.classes)).short
 
 pub returns-clause-stands : goal.returns-clause-stands
 returns-clause-stands c = λ least l. outcomes_hold (problem_of c.args.inst.now) c.args.limit least _ (weighed c.args.inst.now) c.args.inst.now.valid.told (returns-clause-right c) l

@@ -11,21 +11,21 @@ use Rattle.seq_solo.proofs.alone.walk.Goals as goal
 pub returns-then-is_leaf-clause-ended : goal.returns-then-is_leaf-clause-ended
 returns-then-is_leaf-clause-ended c =
     let p = problem_of c.args.inst.now in
-    nothing-solved p c.in_ok-graph.graph.rows.items (sym (ap (is_end p) c.root-all.ensures) ∙ sym c.is_leaf.ensures ∙ c.if-is_leaf.true)
+    nothing-solved p c.in_ok-graph.graph.rows.items (sym (ap (is_end p) c.root-all.ensures.classes) ∙ sym c.is_leaf.ensures ∙ c.if-is_leaf.true)
 
 pub returns-then-is_leaf-clause-stopped : goal.returns-then-is_leaf-clause-stopped
 returns-then-is_leaf-clause-stopped c =
     let p = problem_of c.args.inst.now in
     let rows = c.in_ok-graph.graph.rows.items in
-    may-stop p c.args.limit rows None (nothing-solved p rows (sym (ap (is_end p) c.root-all.ensures) ∙ sym c.is_leaf.ensures ∙ c.if-is_leaf.true))
+    may-stop p c.args.limit rows None (nothing-solved p rows (sym (ap (is_end p) c.root-all.ensures.classes) ∙ sym c.is_leaf.ensures ∙ c.if-is_leaf.true))
 
 pub enter-requires-clause-real : goal.enter-requires-clause-real
-enter-requires-clause-real c = root-real (problem_of c.args.inst.now) c.root-all.result c.root-all.ensures (sym c.is_leaf.ensures ∙ c.if-is_leaf.false)
+enter-requires-clause-real c = root-real (problem_of c.args.inst.now) c.root-all.result c.root-all.ensures.classes (sym c.is_leaf.ensures ∙ c.if-is_leaf.false)
 
 pub turns-init : goal.turns-init
 turns-init c = record {
   known = c.in_ok-enter.ensures.known;
-  walk = begun (problem_of c.args.inst.now) c.args.limit c.root-all.result c.in_ok-graph.graph.rows.items c.enter.new.graph.rows.items c.requires.some c.root-all.ensures c.in_ok-graph.ensures.rows c.in_ok-enter.ensures.known.rows_are c.in_ok-enter.ensures.narrows;
+  walk = begun (problem_of c.args.inst.now) c.args.limit c.root-all.result c.in_ok-graph.graph.rows.items c.enter.new.graph.rows.items c.requires.some c.root-all.ensures.classes c.in_ok-graph.ensures.rows c.in_ok-enter.ensures.known.rows_are c.in_ok-enter.ensures.narrows;
 }
 
 pub returns-clause-sound : goal.returns-clause-sound
@@ -34,7 +34,7 @@ returns-clause-sound c = walking-sound (problem_of c.args.inst.now) c.args.limit
 pub returns-clause-first : goal.returns-clause-first
 returns-clause-first c =
     let p = problem_of c.args.inst.now in
-    walking-begins p c.args.limit c.turns.graph.rows.items (sym (ap (is_end p) c.root-all.ensures) ∙ sym c.is_leaf.ensures ∙ c.if-is_leaf.false) c.turns.invariant.walk
+    walking-begins p c.args.limit c.turns.graph.rows.items (sym (ap (is_end p) c.root-all.ensures.classes) ∙ sym c.is_leaf.ensures ∙ c.if-is_leaf.false) c.turns.invariant.walk
 
 pub returns-clause-root : goal.returns-clause-root
 returns-clause-root c = λ more.
@@ -67,4 +67,4 @@ returns-in-Some-clause-first c =
     let p = problem_of c.args.inst.now in
     let rows = c.turns.graph.rows.items in
     let same = stopped-same p c.args.limit rows c.turn.new.graph.rows.items c.in_ok-missed.field-0 c.in-Some.missed c.in_ok-missed.ensures.turned c.in-Some.is in
-    subst (BeginsWithAll p) (sym same) (walking-begins p c.args.limit rows (sym (ap (is_end p) c.root-all.ensures) ∙ sym c.is_leaf.ensures ∙ c.if-is_leaf.false) c.turns.invariant.walk)
+    subst (BeginsWithAll p) (sym same) (walking-begins p c.args.limit rows (sym (ap (is_end p) c.root-all.ensures.classes) ∙ sym c.is_leaf.ensures ∙ c.if-is_leaf.false) c.turns.invariant.walk)

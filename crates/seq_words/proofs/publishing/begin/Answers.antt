@@ -12,7 +12,7 @@ store-requires g c =
     let may = c.requires.may in
     let e = c.bits_word.ensures in
     let t = c.requires.table in
-    let whole = sym (ap (λ (z : List ℕ). length z) eq) ∙ c.know_eight.ensures in (
+    let whole = sym (ap (λ (z : List ℕ). length z) eq) ∙ c.group_stands.ensures.eight in (
       t.0,
       omega (arith, t.1),
       rw e (begins_at _ _ _ _ _ _ _ g.D.Drafting.group may.next may.idle may.room

@@ -24,7 +24,7 @@ pub returns-clause-of : goal.returns-clause-of
 returns-clause-of c = subst (IsOf c.args.words.now) (sym (learns c)) (published-of c.args.words.now c.args.scribe.now c.args.place c.args.group.now.0 c.requires.scribe)
 
 pub returns-clause-knows : goal.returns-clause-knows
-returns-clause-knows c = subst (λ (x : Sitting). HasGroup c.args.place c.args.group.now.0 x.view) (sym (learns c)) (published-knows c.args.scribe.now.view c.args.place c.args.group.now.0 (inside c) c.know_eight.ensures)
+returns-clause-knows c = subst (λ (x : Sitting). HasGroup c.args.place c.args.group.now.0 x.view) (sym (learns c)) (published-knows c.args.scribe.now.view c.args.place c.args.group.now.0 (inside c) c.group_stands.ensures.eight)
 
 pub returns-clause-covers : goal.returns-clause-covers
 returns-clause-covers c =

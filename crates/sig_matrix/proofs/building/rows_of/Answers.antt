@@ -7,7 +7,7 @@ use Rattle.sig_matrix.specs.Detection.{test_at, no_test}
 use Rattle.sig_matrix.specs.Filling.{AreRows, is_before}
 use Rattle.sig_matrix.proofs.FillingLaws.{rows-none, rows-whole, mode-unused, test_at-map, whole_rows}
 use Rattle.sig_matrix.proofs.building.rows_of.Goals as goal
-use Rattle.sig_matrix.proofs.building.rows_of.Goals.{then-is_used+in_ok-reach, else-is_used}
+use Rattle.sig_matrix.proofs.building.rows_of.Goals.{then-is_used+in_ok-wanted+in_ok-reach, else-is_used}
 
 pub loop-mode-init : goal.loop-mode-init
 loop-mode-init c =
@@ -22,7 +22,7 @@ loop-mode-preserved c =
     let mode = c.loop-mode.mode in
     let many = length-map numbers (test_at flat.tests) in
     elim c.if-is_used.branch [
-      | then-is_used+in_ok-reach w ↦
+      | then-is_used+in_ok-wanted+in_ok-reach w ↦
           (let new = w.add_mode.new.rows in
           let lent = ap length w.as_mut_slice.ensures.value in
           let long : length new ≡ c.loop-mode.rows.len = omega arith in

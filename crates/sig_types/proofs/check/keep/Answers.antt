@@ -1,6 +1,4 @@
-use Rattle.std.proofs.Common.{ap, sym, ◌∙◌}
-use Rattle.sig_types.specs.Breaches.{or_normal}
-use Rattle.sig_types.proofs.PartLaws.{kept-sound}
+use Rattle.sig_types.proofs.KeptLaws.{kept-sound}
 use Rattle.sig_types.proofs.check.keep.Goals as goal
 
 pub of-requires-clause-sound : goal.of-requires-clause-sound

@@ -23,12 +23,9 @@ returns c =
     let valid = c.args.prepared.now.inst.valid in
     let form = subst (λ l. IsPrintable o l → IsReport (report_from p o l)) c.requires.prepared.labels c.in_ok-text.ensures.form in
     record {
-      few = c.requires.prepared.few;
       problem = p;
-      classes = c.requires.prepared.classes;
       outcome = c.in_ok-outcome.outcome;
-      right = c.in_ok-outcome.ensures.right;
-      stands = c.outcome_stands.ensures;
+      solved = c.in_ok-outcome.ensures;
       verdict_is = refl;
       report = c.in_ok-text.ensures.text ∙ ap (λ l. report_bytes (report_from p c.in_ok-outcome.outcome l)) c.requires.prepared.labels;
       accepted =

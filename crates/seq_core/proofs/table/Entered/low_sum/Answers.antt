@@ -7,10 +7,10 @@ use Rattle.seq_core.proofs.SumLaws.{first-fits}
 use Rattle.seq_core.proofs.table.Entered.low_sum.Goals as goal
 
 pub known_low-pass-requires-clause-within : goal.known_low-pass-requires-clause-within
-known_low-pass-requires-clause-within c = within-pass (problem_of c.args.inst.now) (members c.args.group.now) (members c.part-pass_part.result) c.args.test c.requires.within c.part-pass_part.ensures
+known_low-pass-requires-clause-within c = within-pass (problem_of c.args.inst.now) (members c.args.group.now) (members c.part-pass_part.result) c.args.test c.requires.within c.part-pass_part.ensures.classes
 
 pub known_low-fail-requires-clause-within : goal.known_low-fail-requires-clause-within
-known_low-fail-requires-clause-within c = within-fail (problem_of c.args.inst.now) (members c.args.group.now) (members c.part-fail_part.result) c.args.test c.requires.within c.part-fail_part.ensures
+known_low-fail-requires-clause-within c = within-fail (problem_of c.args.inst.now) (members c.args.group.now) (members c.part-fail_part.result) c.args.test c.requires.within c.part-fail_part.ensures.classes
 
 pub overflow_mul-result : goal.overflow_mul-result
 overflow_mul-result c =

@@ -27,7 +27,7 @@ greedy_from-pass-requires t c =
     let p = problem_of c.args.inst.now in
     let xs = members c.args.group.now in
     let e = sym c.is_leaf.ensures ∙ c.if-is_leaf.false in
-    let g = greedy_parts p xs (members c.part-pass_part.result) (fail_part p c.greedy_test-test.result xs) c.greedy_test-test.result c.args.inst.now.valid.told c.requires.within e c.greedy_test-test.ensures.test c.part-pass_part.ensures refl in
+    let g = greedy_parts p xs (members c.part-pass_part.result) (fail_part p c.greedy_test-test.result xs) c.greedy_test-test.result c.args.inst.now.valid.told c.requires.within e c.greedy_test-test.ensures.test c.part-pass_part.ensures.classes refl in
     let d = c.decreases in
     let s = g.pass_smaller in
     (omega arith, (c.greedy_test-test.ensures.numbers, (g.pass_within, tt)))
@@ -43,7 +43,7 @@ greedy_from-fail-requires t c =
     let p = problem_of c.args.inst.now in
     let xs = members c.args.group.now in
     let e = sym c.is_leaf.ensures ∙ c.if-is_leaf.false in
-    let g = greedy_parts p xs (members c.part-pass_part.result) (members c.part-fail_part.result) c.greedy_test-test.result c.args.inst.now.valid.told c.requires.within e c.greedy_test-test.ensures.test c.part-pass_part.ensures c.part-fail_part.ensures in
+    let g = greedy_parts p xs (members c.part-pass_part.result) (members c.part-fail_part.result) c.greedy_test-test.result c.args.inst.now.valid.told c.requires.within e c.greedy_test-test.ensures.test c.part-pass_part.ensures.classes c.part-fail_part.ensures.classes in
     let d = c.decreases in
     let s = g.fail_smaller in
     (omega arith, (c.greedy_from-pass.ensures.numbers, (g.fail_within, tt)))
@@ -59,7 +59,7 @@ overflow_mul-cost t c =
     let there = greedy_there (problem_of c.args.inst.now) (members c.args.group.now) c.greedy_test-test.result c.args.inst.now.valid.told c.requires.within (sym c.is_leaf.ensures ∙ c.if-is_leaf.false) c.greedy_test-test.ensures.test in
     let cost = c.from.ensures ∙ get_or_read c.args.inst.now.costs.items c.greedy_test-test.result c.index.result.now there c.index.ensures 0 in
     let s = greedy-step c.args.inst.now c.args.group.now c.part-pass_part.result c.part-fail_part.result c.greedy_test-test.result c.from.result c.weight_of-weight.result c.greedy_from-pass.result c.greedy_from-fail.result
-    c.requires.within (sym c.is_leaf.ensures ∙ c.if-is_leaf.false) c.greedy_test-test.ensures.test c.part-pass_part.ensures c.part-fail_part.ensures cost c.weight_of-weight.ensures c.greedy_from-pass.ensures.value c.greedy_from-fail.ensures.value in
+    c.requires.within (sym c.is_leaf.ensures ∙ c.if-is_leaf.false) c.greedy_test-test.ensures.test c.part-pass_part.ensures.classes c.part-fail_part.ensures.classes cost c.weight_of-weight.ensures c.greedy_from-pass.ensures.value c.greedy_from-fail.ensures.value in
     let m = s.product in
     omega arith
 
@@ -68,7 +68,7 @@ overflow_add-cost-2 t c =
     let there = greedy_there (problem_of c.args.inst.now) (members c.args.group.now) c.greedy_test-test.result c.args.inst.now.valid.told c.requires.within (sym c.is_leaf.ensures ∙ c.if-is_leaf.false) c.greedy_test-test.ensures.test in
     let cost = c.from.ensures ∙ get_or_read c.args.inst.now.costs.items c.greedy_test-test.result c.index.result.now there c.index.ensures 0 in
     let s = greedy-step c.args.inst.now c.args.group.now c.part-pass_part.result c.part-fail_part.result c.greedy_test-test.result c.from.result c.weight_of-weight.result c.greedy_from-pass.result c.greedy_from-fail.result
-    c.requires.within (sym c.is_leaf.ensures ∙ c.if-is_leaf.false) c.greedy_test-test.ensures.test c.part-pass_part.ensures c.part-fail_part.ensures cost c.weight_of-weight.ensures c.greedy_from-pass.ensures.value c.greedy_from-fail.ensures.value in
+    c.requires.within (sym c.is_leaf.ensures ∙ c.if-is_leaf.false) c.greedy_test-test.ensures.test c.part-pass_part.ensures.classes c.part-fail_part.ensures.classes cost c.weight_of-weight.ensures c.greedy_from-pass.ensures.value c.greedy_from-fail.ensures.value in
     let m = s.small in
     omega arith
 
@@ -77,7 +77,7 @@ keep_greedy-requires-clause-greedy t c =
     let there = greedy_there (problem_of c.args.inst.now) (members c.args.group.now) c.greedy_test-test.result c.args.inst.now.valid.told c.requires.within (sym c.is_leaf.ensures ∙ c.if-is_leaf.false) c.greedy_test-test.ensures.test in
     let cost = c.from.ensures ∙ get_or_read c.args.inst.now.costs.items c.greedy_test-test.result c.index.result.now there c.index.ensures 0 in
     let s = greedy-step c.args.inst.now c.args.group.now c.part-pass_part.result c.part-fail_part.result c.greedy_test-test.result c.from.result c.weight_of-weight.result c.greedy_from-pass.result c.greedy_from-fail.result
-    c.requires.within (sym c.is_leaf.ensures ∙ c.if-is_leaf.false) c.greedy_test-test.ensures.test c.part-pass_part.ensures c.part-fail_part.ensures cost c.weight_of-weight.ensures c.greedy_from-pass.ensures.value c.greedy_from-fail.ensures.value in
+    c.requires.within (sym c.is_leaf.ensures ∙ c.if-is_leaf.false) c.greedy_test-test.ensures.test c.part-pass_part.ensures.classes c.part-fail_part.ensures.classes cost c.weight_of-weight.ensures c.greedy_from-pass.ensures.value c.greedy_from-fail.ensures.value in
     record { test = c.greedy_test-test.ensures.test; cost = s.value }
 
 pub returns-clause-keeps : goal.returns-clause-keeps
@@ -91,7 +91,7 @@ returns-clause-value t c =
     let there = greedy_there (problem_of c.args.inst.now) (members c.args.group.now) c.greedy_test-test.result c.args.inst.now.valid.told c.requires.within (sym c.is_leaf.ensures ∙ c.if-is_leaf.false) c.greedy_test-test.ensures.test in
     let cost = c.from.ensures ∙ get_or_read c.args.inst.now.costs.items c.greedy_test-test.result c.index.result.now there c.index.ensures 0 in
     let s = greedy-step c.args.inst.now c.args.group.now c.part-pass_part.result c.part-fail_part.result c.greedy_test-test.result c.from.result c.weight_of-weight.result c.greedy_from-pass.result c.greedy_from-fail.result
-    c.requires.within (sym c.is_leaf.ensures ∙ c.if-is_leaf.false) c.greedy_test-test.ensures.test c.part-pass_part.ensures c.part-fail_part.ensures cost c.weight_of-weight.ensures c.greedy_from-pass.ensures.value c.greedy_from-fail.ensures.value in
+    c.requires.within (sym c.is_leaf.ensures ∙ c.if-is_leaf.false) c.greedy_test-test.ensures.test c.part-pass_part.ensures.classes c.part-fail_part.ensures.classes cost c.weight_of-weight.ensures c.greedy_from-pass.ensures.value c.greedy_from-fail.ensures.value in
     s.value
 
 pub returns-clause-fits : goal.returns-clause-fits
@@ -99,5 +99,5 @@ returns-clause-fits t c =
     let there = greedy_there (problem_of c.args.inst.now) (members c.args.group.now) c.greedy_test-test.result c.args.inst.now.valid.told c.requires.within (sym c.is_leaf.ensures ∙ c.if-is_leaf.false) c.greedy_test-test.ensures.test in
     let cost = c.from.ensures ∙ get_or_read c.args.inst.now.costs.items c.greedy_test-test.result c.index.result.now there c.index.ensures 0 in
     let s = greedy-step c.args.inst.now c.args.group.now c.part-pass_part.result c.part-fail_part.result c.greedy_test-test.result c.from.result c.weight_of-weight.result c.greedy_from-pass.result c.greedy_from-fail.result
-    c.requires.within (sym c.is_leaf.ensures ∙ c.if-is_leaf.false) c.greedy_test-test.ensures.test c.part-pass_part.ensures c.part-fail_part.ensures cost c.weight_of-weight.ensures c.greedy_from-pass.ensures.value c.greedy_from-fail.ensures.value in
+    c.requires.within (sym c.is_leaf.ensures ∙ c.if-is_leaf.false) c.greedy_test-test.ensures.test c.part-pass_part.ensures.classes c.part-fail_part.ensures.classes cost c.weight_of-weight.ensures c.greedy_from-pass.ensures.value c.greedy_from-fail.ensures.value in
     s.small

@@ -30,7 +30,7 @@ greedy_tree-requires t c =
     let p = problem_of c.args.inst.now in
     let xs = members c.args.group.now in
     let e = sym c.is_leaf.ensures ∙ c.if-is_leaf.false in
-    let g = greedy_parts p xs (members c.part-pass_part.result) (fail_part p c.greedy_choice-test.result xs) c.greedy_choice-test.result c.args.inst.now.valid.told c.requires.within e c.greedy_choice-test.ensures.test c.part-pass_part.ensures refl in
+    let g = greedy_parts p xs (members c.part-pass_part.result) (fail_part p c.greedy_choice-test.result xs) c.greedy_choice-test.result c.args.inst.now.valid.told c.requires.within e c.greedy_choice-test.ensures.test c.part-pass_part.ensures.classes refl in
     let d = c.decreases in
     let s = g.pass_smaller in
     (omega arith, (c.greedy_choice-test.ensures.numbers, g.pass_within))
@@ -40,7 +40,7 @@ greedy_tree-requires-2 t c =
     let p = problem_of c.args.inst.now in
     let xs = members c.args.group.now in
     let e = sym c.is_leaf.ensures ∙ c.if-is_leaf.false in
-    let g = greedy_parts p xs (members c.part-pass_part.result) (members c.part-fail_part.result) c.greedy_choice-test.result c.args.inst.now.valid.told c.requires.within e c.greedy_choice-test.ensures.test c.part-pass_part.ensures c.part-fail_part.ensures in
+    let g = greedy_parts p xs (members c.part-pass_part.result) (members c.part-fail_part.result) c.greedy_choice-test.result c.args.inst.now.valid.told c.requires.within e c.greedy_choice-test.ensures.test c.part-pass_part.ensures.classes c.part-fail_part.ensures.classes in
     let d = c.decreases in
     let s = g.fail_smaller in
     (omega arith, (c.greedy_tree.ensures.numbers, g.fail_within))
@@ -56,7 +56,7 @@ returns-clause-value t c =
     let p = problem_of c.args.inst.now in
     let xs = members c.args.group.now in
     let e = sym c.is_leaf.ensures ∙ c.if-is_leaf.false in
-    let g = greedy_parts p xs (members c.part-pass_part.result) (members c.part-fail_part.result) c.greedy_choice-test.result c.args.inst.now.valid.told c.requires.within e c.greedy_choice-test.ensures.test c.part-pass_part.ensures c.part-fail_part.ensures in
+    let g = greedy_parts p xs (members c.part-pass_part.result) (members c.part-fail_part.result) c.greedy_choice-test.result c.args.inst.now.valid.told c.requires.within e c.greedy_choice-test.ensures.test c.part-pass_part.ensures.classes c.part-fail_part.ensures.classes in
     (greedy-made c.args.inst.now c.args.group.now (ask c.greedy_choice-test.result (tree_of c.in_ok-pass.pass) (tree_of c.in_ok-fail.fail)) c.ask_first.result c.requires.within
     (ap (λ x. ask c.greedy_choice-test.result x (tree_of c.in_ok-fail.fail)) c.in_ok-pass.ensures.value
     ∙ ap (λ x. ask c.greedy_choice-test.result (greedy p (members c.part-pass_part.result)) x) c.in_ok-fail.ensures.value ∙ sym g.tree) c.ask_first.ensures).value
