@@ -11,34 +11,11 @@ use Rattle.indexmap.specs.IndexMap.{IndexMap, get}
 use Rattle.seq_theory.specs.Graph.{same_group}
 use Rattle.seq_theory.specs.Claims.{Claim, claim_of}
 use Rattle.seq_theory.proofs.RowLaws.{same_group-true, same_group-refl}
-use Rattle.seq_inst.specs.Members.{members}
+use Rattle.seq_inst.specs.Members.{members, IsWords, SameWordsHold}
 use Rattle.seq_inst.specs.declared.group.Group.{Group}
-use Rattle.seq_inst.proofs.SameGroups.{AreWords, same_members}
 use Rattle.seq_cert.specs.declared.report.GroupLine.{GroupLine}
 use Rattle.seq_check.specs.GroupLooks.{claim_at, claims_of, is_listed}
-use Rattle.seq_check.specs.Listed.{IsWords, AreLows}
-
-words_are : (g : Group) → IsWords g → AreWords g.0
-words_are g w = record { eight = w.eight; each = w.each }
-
-same-classes : (g h : Group) → g.0 ≡ h.0 → same_group (members g) (members h) ≡ true
-same-classes g h e =
-    let whole : g ≡ h = ap (λ (ws : List ℕ). group_of ws) e in
-    ap (λ (x : Group). same_group (members g) (members x)) (sym whole) ∙ same_group-refl (members g)
-  where
-    group_of : List ℕ → Group
-    group_of ws = record { 0 = ws }
-
--- the words of two groups are the same exactly where their classes are
-pub bytes_alike : (g h : Group) → IsWords g → IsWords h → bytes_eq g.0 h.0 ≡ same_group (members g) (members h)
-bytes_alike g h wg wh = equal (bytes_eq g.0 h.0) (same_group (members g) (members h))
-    (λ t. same-classes g h ((bytes_eq-Decides g.0 h.0).0 t))
-    (λ t. (bytes_eq-Decides g.0 h.0).1 (same_members g h (words_are g wg) (words_are h wh) (same_group-true (members g) (members h) t)))
-  where
-    equal : (x y : Bool) → (x ≡ true → y ≡ true) → (y ≡ true → x ≡ true) → x ≡ y
-    equal true y h k = sym (h refl)
-    equal false true h k = k refl
-    equal false false h k = refl
+use Rattle.seq_check.specs.Listed.{AreLows}
 
 pub claim_of-append : (xs : List Claim) (c : Claim) (group : List ℕ) → claim_of (xs ++ c ∷ []) group ≡ cond (is_some (claim_of xs group)) (claim_of xs group) (cond (same_group group c.group) (Some c.low) None)
 claim_of-append [] c group = refl
@@ -65,7 +42,7 @@ no_lows m empty g w = ap (lookup (bytes_eq g.0)) empty
 claims-push : (lines : List GroupLine) (line : GroupLine) → claims_of (lines ++ line ∷ []) ≡ claims_of lines ++ claim_at line ∷ []
 claims-push lines line = map-append claim_at lines (line ∷ [])
 
-module _ {S : Type 0} (old : IndexMap (List ℕ) ℕ S) (lines : List GroupLine) (line : GroupLine) (w : IsWords line.group) (are : AreLows old lines) where
+module _ {S : Type 0} (old : IndexMap (List ℕ) ℕ S) (lines : List GroupLine) (line : GroupLine) (law : SameWordsHold) (w : IsWords line.group) (are : AreLows old lines) where
   later : (g : Group) → claim_of (claims_of (lines ++ line ∷ [])) (members g) ≡ cond (is_some (claim_of (claims_of lines) (members g))) (claim_of (claims_of lines) (members g)) (cond (same_group (members g) (members line.group)) (Some line.low) None)
   later g = ap (λ cs. claim_of cs (members g)) (claims-push lines line) ∙ claim_of-append (claims_of lines) (claim_at line) (members g)
 
@@ -73,14 +50,14 @@ module _ {S : Type 0} (old : IndexMap (List ℕ) ℕ S) (lines : List GroupLine)
   pub noted : (new : IndexMap (List ℕ) ℕ S) → false ≡ is_some (get bytes_eq old line.group.0) → ((q : List ℕ) → get bytes_eq new q ≡ cond (bytes_eq line.group.0 q) (Some line.low) (get bytes_eq old q)) → AreLows new (lines ++ line ∷ [])
   noted new absent updates g wg = elim (cases_Bool (same_group (members g) (members line.group))) [
     | inl y ↦
-        (let words : g.0 ≡ line.group.0 = same_members g line.group (words_are g wg) (words_are line.group w) (same_group-true (members g) (members line.group) y) in
+        (let words : g.0 ≡ line.group.0 = (law g line.group wg w).same (same_group-true (members g) (members line.group) y) in
         let same : bytes_eq line.group.0 g.0 ≡ true = (bytes_eq-Decides line.group.0 g.0).1 (sym words) in
         let none : is_some (claim_of (claims_of lines) (members g)) ≡ false = ap is_some (sym (are g wg)) ∙ ap (λ q. is_some (get bytes_eq old q)) words ∙ sym absent in
         let a : get bytes_eq new g.0 ≡ Some line.low = updates g.0 ∙ rw same refl in
         let b : claim_of (claims_of (lines ++ line ∷ [])) (members g) ≡ Some line.low = later g ∙ rw (none, y) refl in
         a ∙ sym b)
     | inr n ↦
-        (let other : bytes_eq line.group.0 g.0 ≡ false = bytes_alike line.group g w wg ∙ swapped line.group g n in
+        (let other : bytes_eq line.group.0 g.0 ≡ false = (law line.group g w wg).test ∙ swapped line.group g n in
         let a : get bytes_eq new g.0 ≡ claim_of (claims_of lines) (members g) = updates g.0 ∙ rw other (are g wg) in
         let b : claim_of (claims_of (lines ++ line ∷ [])) (members g) ≡ claim_of (claims_of lines) (members g) = later g ∙ rw n (or_none (claim_of (claims_of lines) (members g))) in
         a ∙ sym b)
@@ -96,7 +73,7 @@ module _ {S : Type 0} (old : IndexMap (List ℕ) ℕ S) (lines : List GroupLine)
   pub kept : true ≡ is_some (get bytes_eq old line.group.0) → AreLows old (lines ++ line ∷ [])
   kept there g wg = elim (cases_Bool (same_group (members g) (members line.group))) [
     | inl y ↦
-        (let words : g.0 ≡ line.group.0 = same_members g line.group (words_are g wg) (words_are line.group w) (same_group-true (members g) (members line.group) y) in
+        (let words : g.0 ≡ line.group.0 = (law g line.group wg w).same (same_group-true (members g) (members line.group) y) in
         let some : is_some (claim_of (claims_of lines) (members g)) ≡ true = ap is_some (sym (are g wg)) ∙ ap (λ q. is_some (get bytes_eq old q)) words ∙ sym there in
         are g wg ∙ sym (later g ∙ rw some refl))
     | inr n ↦ are g wg ∙ sym (later g ∙ rw n (or_none (claim_of (claims_of lines) (members g))))

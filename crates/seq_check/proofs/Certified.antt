@@ -1,11 +1,15 @@
 -- What a certified report shows.
-use Rattle.std.proofs.Common.{◌≡◌, ℕ, ◌-◌, ◌<◌, ◌≤◌, List, [], ◌∷◌, length, sym, ap, ◌∙◌, arith, inl, inr, subst, None}
-use Rattle.std.specs.Prelude.{true, false, nat_eq, nat_le, nat_lt}
+use Rattle.std.proofs.Common.{◌≡◌, ℕ, ◌-◌, ◌<◌, ◌≤◌, List, [], ◌∷◌, ◌+◌, length, refl, sym, ap, ◌∙◌, arith, inl, inr, subst, Option, Some, None}
+use Rattle.std.specs.Prelude.{true, false, nat_eq, nat_le, nat_lt, All}
 use Rattle.std.proofs.lemmas.Bool.{cases_Bool, and_parts, eqb-true, false≢true}
 use Rattle.std.proofs.lemmas.Bool.Decides.{nat_tests}
+use Rattle.std.proofs.lemmas.List.Elements.{All-nil, All-cons}
 use Rattle.seq_theory.specs.Problem.{Problem, IsWithin, IsWeighed, AreTold, all_classes, is_end}
 use Rattle.seq_theory.specs.Tree.{tree_cost}
-use Rattle.seq_theory.proofs.LeastLaws.{least, IsLeast-least, count_up-IsIn}
+use Rattle.seq_theory.specs.Claims.{Claim, IsClaim, ClaimsHold}
+use Rattle.seq_theory.proofs.LeastLaws.{least, IsLeast-least}
+use Rattle.seq_theory.proofs.BelowLaws.{within-all}
+use Rattle.seq_huff.specs.Bounds.{IsAtMostLeast}
 use Rattle.sig_lines.specs.declared.labels.Labels.{Labels}
 use Rattle.seq_inst.specs.declared.outcome.Verdict.{Verdict}
 use Rattle.seq_inst.specs.declared.outcome.Verdict.TheVariants.{Optimal, Bounded}
@@ -15,15 +19,16 @@ use Rattle.seq_cert.specs.declared.report.GroupLine.{GroupLine}
 use Rattle.seq_check.specs.TreesIn.{tree_in}
 use Rattle.seq_check.specs.Looks.{first_bad, AreGood}
 use Rattle.seq_check.specs.ModelLooks.{model_looks, class_looks, test_looks}
-use Rattle.seq_check.specs.GroupLooks.{claim_at, claims_of, group_looks}
+use Rattle.seq_check.specs.GroupLooks.{claim_at, claims_of, is_sized, comes_after, group_look, group_looks}
 use Rattle.seq_check.specs.Lines.{looks_from_classes, looks_from_tree, looks_from_groups, cost_looks, low_looks, gap_looks, count_looks, head_looks, looks_at_tree, is_gap, looks, tests_at, tree_at, groups_at}
-use Rattle.seq_check.specs.Shown.{CertifiedShows}
+use Rattle.seq_check.specs.Shown.{IsCertified, Shows}
 use Rattle.seq_check.proofs.LookLaws.{good-first_bad, all_good-good, good-append}
 use Rattle.seq_check.proofs.DrawnTrees.{good_draws}
+use Rattle.seq_check.proofs.SizedGroups.{sized_within, sized_more}
 use Rattle.seq_check.proofs.ClaimLooks.{claim-le-least, last_good, claims_hold}
 
-pub within_all : (p : Problem) → IsWithin p (all_classes p)
-within_all p c i = let h = count_up-IsIn c 0 p.classes i in omega arith
+within_all : (p : Problem) → IsWithin p (all_classes p)
+within_all p = within-all p (all_classes p) refl
 
 at_most : (a b : ℕ) → nat_le a b ≡ true → a ≤ b
 at_most a b e = grind (arith, nat_tests)
@@ -67,6 +72,25 @@ low_groups p r (line ∷ lines) w told more some good =
     let e = ap (least p) h.root in
     omega arith
 
+-- each group line: its group is sized, so it is within the classes and has two goals or more
+module _ (p : Problem) (low : ℕ) (claims : List Claim) (w : IsWeighed p) (told : AreTold p) (hold : ClaimsHold p claims) where
+  line_right : (n : ℕ) (before : Option GroupLine) (line : GroupLine) (lines : List GroupLine) → AreGood (group_look p n low claims before line lines) → IsClaim (claim_at line) claims → IsAtMostLeast p (members line.group) line.low
+  unfolding group_look
+  line_right n before line lines good among tree solves =
+      let sized = (and_parts (is_sized p line.size line.group) (comes_after before line) good.0).0 in
+      let within = sized_within p line.size line.group sized in
+      let c : line.low ≤ least p (members line.group) = claim-le-least p claims (claim_at line) w told hold among within (sized_more p line.size line.group sized) in
+      let l = (IsLeast-least p (members line.group) told within).least tree solves in
+      omega arith
+
+  lows_right : (n : ℕ) (before : Option GroupLine) (lines : List GroupLine) → AreGood (group_looks p n low claims before lines) → ((c : Claim) → IsClaim c (claims_of lines) → IsClaim c claims) → All (λ (line : GroupLine). IsAtMostLeast p (members line.group) line.low) lines
+  lows_right n before [] good among = All-nil (λ (line : GroupLine). IsAtMostLeast p (members line.group) line.low)
+  lows_right n before (line ∷ lines) good among =
+      let both = good-append (group_look p n low claims before line lines) (group_looks p (n + 1) low claims (Some line) lines) good in
+      All-cons (λ (line : GroupLine). IsAtMostLeast p (members line.group) line.low) line lines
+      (line_right n before line lines both.0 (among (claim_at line) (inl refl)))
+      (lows_right (n + 1) (Some line) lines both.1 (λ c i. among c (inr i)))
+
 low_right : (p : Problem) (r : Report) → IsWeighed p → AreTold p → Parts p r → r.low ≤ least p (all_classes p)
 unfolding low_looks count_looks
 low_right p r w told ps = elim (cases_Bool (is_end p (all_classes p))) [
@@ -98,7 +122,7 @@ gap_right p r ps e =
     let z = gap_none r.verdict r.gap e s.1 in
     omega arith
 
-pub certified_shows : CertifiedShows
+pub certified_shows : (p : Problem) (labels : Labels) (r : Report) → IsWeighed p → AreTold p → IsCertified p labels r → Shows p r
 unfolding looks_at_tree
 certified_shows p labels r w told certified =
     let ps = parts p labels r certified in
@@ -117,4 +141,5 @@ certified_shows p labels r w told certified =
       low = low;
       high = omega arith;
       optimal = λ e. let g = gap_right p r ps e in omega arith;
+      groups = lows_right p r.low (claims_of r.groups) w told (claims_hold p (groups_at r) r.low r.groups ps.groups) (groups_at r) None r.groups ps.groups (λ c i. i);
     }

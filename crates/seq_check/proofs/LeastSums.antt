@@ -1,9 +1,9 @@
 -- The least sum over the splitting tests, test by test.
-use Rattle.std.proofs.Common.{◌≡◌, ℕ, ◌+◌, ◌<◌, ◌≤◌, List, [], ◌∷◌, map, refl, sym, ap, subst, ◌∙◌, arith, inl, inr, ◌⊎◌}
+use Rattle.std.proofs.Common.{◌≡◌, ℕ, ◌+◌, ◌*◌, ◌<◌, ◌≤◌, List, [], ◌∷◌, map, refl, sym, ap, subst, ◌∙◌, arith, inl, inr, ◌⊎◌}
 use Rattle.std.specs.Prelude.{Bool, true, false, cond, nat_le, filter, unwrap_or, is_some, Option, Some, None}
 use Rattle.std.proofs.lemmas.Bool.{cases_lt, false≢true, true≢false, leb-true, leb-false}
 use Rattle.std.proofs.lemmas.Bool.Decides.{nat_tests}
-use Rattle.seq_theory.specs.Problem.{Problem, IsIn, count_up, pass_part, fail_part, is_end, splits, splitting, least_of}
+use Rattle.seq_theory.specs.Problem.{Problem, IsIn, count_up, pass_part, fail_part, weight_of, is_end, splits, splitting, least_of}
 use Rattle.seq_theory.specs.Bound.{bound, step_sum}
 use Rattle.seq_theory.specs.Claims.{Claim, claim_of, claimed}
 use Rattle.seq_theory.proofs.GroupLaws.{IsIn-filter, filter-IsIn, filter_passes}
@@ -99,3 +99,13 @@ bounds_reach p claims group t low pass fail pass_is fail_is no_pass no_fail le =
     let a = unlisted p claims (pass_part p t group) (sym pass_is ∙ none_is pass no_pass) in
     let b = unlisted p claims (fail_part p t group) (sym fail_is ∙ none_is fail no_fail) in
     le-true low (step_sum p (claimed p claims) group t) (omega arith)
+
+-- the sum of a test by what its parts count
+pub counted_sum : (p : Problem) (claims : List Claim) (group pass fail : List ℕ) (t low cost weight a b : ℕ) (x y : Option ℕ) → pass ≡ pass_part p t group → fail ≡ fail_part p t group → x ≡ claim_of claims pass → y ≡ claim_of claims fail
+    → a ≡ cond (is_end p pass) 0 (unwrap_or x (bound p pass)) → b ≡ cond (is_end p fail) 0 (unwrap_or y (bound p fail)) → cost ≡ p.cost t → weight ≡ weight_of p group
+    → nat_le low (cost * weight + (a + b)) ≡ nat_le low (step_sum p (claimed p claims) group t)
+counted_sum p claims group pass fail t low cost weight a b x y pe fe xe ye ae be ce we =
+    let product : cost * weight ≡ p.cost t * weight_of p group = ap (λ n. n * weight) ce ∙ ap (λ n. p.cost t * n) we in
+    let first : a ≡ claimed p claims (pass_part p t group) = ae ∙ ap (λ (o : Option ℕ). cond (is_end p pass) 0 (unwrap_or o (bound p pass))) xe ∙ ap (claimed p claims) pe in
+    let second : b ≡ claimed p claims (fail_part p t group) = be ∙ ap (λ (o : Option ℕ). cond (is_end p fail) 0 (unwrap_or o (bound p fail))) ye ∙ ap (claimed p claims) fe in
+    ap (nat_le low) (let e : cost * weight + (a + b) ≡ step_sum p (claimed p claims) group t = omega arith in e)

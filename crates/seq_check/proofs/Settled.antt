@@ -4,10 +4,10 @@ use Rattle.std.specs.Prelude.{true, not, ◌&&◌, nat_lt}
 use Rattle.std.proofs.lemmas.Bool.{and_parts, ltb-true}
 use Rattle.std.proofs.Math.Nat.{mul-le-mul_left}
 use Rattle.std.proofs.lemmas.List.Elements.{All-push}
-use Rattle.seq_theory.specs.Problem.{Problem, IsWithin, pass_part, fail_part, splits, is_end}
+use Rattle.seq_theory.specs.Problem.{Problem, IsWithin, fails, pass_part, fail_part, splits, is_end}
 use Rattle.seq_inst.specs.Members.{members}
 use Rattle.seq_inst.specs.declared.group.Group.{Group}
-use Rattle.seq_inst.proofs.WithinLaws.{within-pass, within-fail}
+use Rattle.seq_theory.proofs.GreedyLaws.{part-within}
 use Rattle.seq_cert.specs.declared.report.TreeLine.{TreeLine}
 use Rattle.seq_cert.specs.declared.report.TreeLine.TheVariants.{Ask}
 use Rattle.seq_check.specs.TreeLooks.{settles, left_after}
@@ -22,8 +22,8 @@ module _ (p : Problem) (t : ℕ) (group : List ℕ) (old mid new : List Group) (
 
   pub both_within : IsWithin p group → AreWithin p old → AreWithin p new
   both_within within all =
-      let first : AreWithin p mid = subst (AreWithin p) (sym mid_is) (All-push (λ (x : Group). IsWithin p (members x)) old f all (within-fail p group (members f) t within fail)) in
-      subst (AreWithin p) (sym new_is) (All-push (λ (x : Group). IsWithin p (members x)) mid g first (within-pass p group (members g) t within pass))
+      let first : AreWithin p mid = subst (AreWithin p) (sym mid_is) (All-push (λ (x : Group). IsWithin p (members x)) old f all (subst (IsWithin p) (sym fail) (part-within p (fails p t) group within))) in
+      subst (AreWithin p) (sym new_is) (All-push (λ (x : Group). IsWithin p (members x)) mid g first (subst (IsWithin p) (sym pass) (part-within p (p.passes t) group within)))
 
 pub small_cost : (cost weight : ℕ) → cost ≤ 1000000 → weight ≤ 4097000000 → cost * weight ≤ 4097000000000000
 small_cost cost weight lc lw = let m : cost * weight ≤ cost * 4097000000 = mul-le-mul_left cost lw in omega arith

@@ -7,9 +7,7 @@ use Rattle.std.proofs.lemmas.Bool.Decides.{nat_tests}
 use Rattle.seq_theory.specs.Problem.{Problem, IsIn, IsWithin, is_end, count_up}
 use Rattle.seq_inst.specs.Members.{members, members_below, has_class, IsFirstFrom, HasNoneFrom}
 use Rattle.seq_inst.specs.declared.group.Group.{Group}
-use Rattle.seq_inst.proofs.SameGroups.{class-member, member-class}
-use Rattle.seq_theory.proofs.LeastLaws.{count_up-IsIn}
-use Rattle.seq_theory.proofs.GroupLaws.{filter-IsIn}
+use Rattle.seq_theory.proofs.BelowLaws.{IsIn-passing, passing-passes, passing-below}
 use Rattle.seq_check.specs.GroupLooks.{is_sized}
 
 all-in : (f : ℕ → Bool) (xs : List ℕ) → list_all f xs ≡ true → (c : ℕ) → IsIn c xs → f c ≡ true
@@ -33,20 +31,26 @@ sized_within p size g e =
     let s = and_parts (nat_eq size (length (members g))) (not (is_end p (members g)) && list_all (λ c. nat_lt c p.classes) (members g)) e in
     all-within p (members g) (and_parts (not (is_end p (members g))) (list_all (λ c. nat_lt c p.classes) (members g)) s.1).1
 
-member-small : (g : Group) (c : ℕ) → IsIn c (members g) → c < 512
-unfolding members_below
-member-small g c i = let r = count_up-IsIn c 0 512 (filter-IsIn (has_class g) c (count_up 0 512) i) in let h = r.1 in omega arith
+-- and has two goals or more
+pub sized_more : (p : Problem) (size : ℕ) (g : Group) → is_sized p size g ≡ true → is_end p (members g) ≡ false
+sized_more p size g e =
+    let s = and_parts (nat_eq size (length (members g))) (not (is_end p (members g)) && list_all (λ c. nat_lt c p.classes) (members g)) e in
+    open-end (is_end p (members g)) (and_parts (not (is_end p (members g))) (list_all (λ c. nat_lt c p.classes) (members g)) s.1).0
+  where
+    open-end : (b : Bool) → not b ≡ true → b ≡ false
+    open-end true e = absurd (false≢true e)
+    open-end false e = refl
 
 -- no class from n on is in the group
 pub none_from : (g : Group) (n : ℕ) → HasNoneFrom g n → true ≡ list_all (λ c. nat_lt c n) (members g)
 none_from g n none = sym (all-from (λ c. nat_lt c n) (members g) (λ c i. elim (cases_lt c n) [
   | inl lt ↦ lt-ltb c n lt
-  | inr ge ↦ absurd (false≢true (sym (none c ge (member-small g c i)) ∙ member-class g c i))
+  | inr ge ↦ absurd (false≢true (sym (none c ge (passing-below (has_class g) c 512 i)) ∙ passing-passes (has_class g) c 512 i))
 ]))
 
 -- some class from n on is
 pub some_from : (g : Group) (n c : ℕ) → IsFirstFrom g n c → false ≡ list_all (λ c. nat_lt c n) (members g)
 some_from g n c first = elim (cases_Bool (list_all (λ c. nat_lt c n) (members g))) [
-  | inl y ↦ (let lt = below c n (all-in (λ c. nat_lt c n) (members g) y c (class-member g c first.in_range first.in_group)) in let le = first.from_there in absurd (let bad : ⊥ = omega arith in bad))
+  | inl y ↦ (let lt = below c n (all-in (λ c. nat_lt c n) (members g) y c (IsIn-passing (has_class g) c 512 first.in_range first.in_group)) in let le = first.from_there in absurd (let bad : ⊥ = omega arith in bad))
   | inr other ↦ sym other
 ]

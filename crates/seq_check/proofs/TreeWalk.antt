@@ -7,7 +7,7 @@ use Rattle.std.proofs.lemmas.List.Elements.{All-nil, All-cons, All-pop}
 use Rattle.seq_theory.specs.Problem.{Problem, IsWithin, all_classes, weight_of, pass_part, fail_part}
 use Rattle.seq_theory.specs.Tree.{Tree, tree_cost}
 use Rattle.seq_theory.proofs.CostLaws.{tree_cost-leaf, tree_cost-ask}
-use Rattle.seq_inst.proofs.RootLaws.{within-all}
+use Rattle.seq_theory.proofs.BelowLaws.{within-all}
 use Rattle.seq_inst.specs.Members.{members}
 use Rattle.seq_inst.specs.declared.group.Group.{Group}
 use Rattle.seq_cert.specs.declared.fault.BadCode.TheVariants.{C03}

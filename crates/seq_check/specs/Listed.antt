@@ -1,17 +1,12 @@
--- The listed groups in a map, and when two groups are told by their words.
-use Rattle.std.specs.Prelude.{◌≡◌, ℕ, ◌^◌, ◌<◌, List, length, slice_index}
+-- The listed groups in a map.
+use Rattle.std.specs.Prelude.{◌≡◌, ℕ, List}
 use Rattle.std.specs.Str.{bytes_eq}
 use Rattle.indexmap.specs.IndexMap.{IndexMap, get}
 use Rattle.seq_theory.specs.Claims.{claim_of}
-use Rattle.seq_inst.specs.Members.{members}
+use Rattle.seq_inst.specs.Members.{members, IsWords}
 use Rattle.seq_inst.specs.declared.group.Group.{Group}
 use Rattle.seq_cert.specs.declared.report.GroupLine.{GroupLine}
 use Rattle.seq_check.specs.GroupLooks.{claims_of}
-
--- the group is eight words of 64 bits
-pub record IsWords (g : Group) : Type 0 where
-  pub eight : length g.0 ≡ 8
-  pub each : (k : ℕ) → k < 8 → slice_index g.0 k < 2 ^ 64
 
 -- the map has the low of each listed group, from the first line that lists it
 abbrev pub AreLows : {S : Type 0} → IndexMap (List ℕ) ℕ S → List GroupLine → Type 0

@@ -15,17 +15,16 @@ ghost use Rattle.seq_cert.specs.declared.report.GroupLine.{GroupLine as Line};
 ghost use Rattle.seq_check.specs.GroupLooks.{claims_of, most_claimed};
 ghost use Rattle.seq_check.specs.Listed.{AreLows};
 
-use crate::groups_alike::know_group;
 use crate::lows::Lows;
 use seq_cert::GroupLine;
 use seq_huff::{Estimate, Order, Scratch, ordered_bound};
-use seq_inst::{Answer, Group, Instance, is_leaf, part, splits, weight_of};
+use seq_inst::{Answer, Group, Instance, group_stands, is_leaf, part, splits, weight_of};
 
 /// The low that the first line of the group claims, if it is listed.
 fn listed(lows: &Lows, group: &Group) -> Option<u64>
     ensures { (lines : List Line) → AreLows lows.now lines → result ≡ claim_of (claims_of lines) (members group.now) }
 {
-    know_group(group);
+    group_stands(group);
     match lows.get(&group.0) {
         Some(low) => Some(*low),
         None => None,

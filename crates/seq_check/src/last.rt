@@ -5,7 +5,6 @@ ghost use Rattle.seq_theory.specs.Problem.{all_classes, is_end};
 ghost use Rattle.seq_inst.specs.Instances.{problem_of};
 ghost use Rattle.seq_check.specs.GroupLooks.{is_root};
 
-use crate::groups_alike::is_same;
 use seq_cert::GroupLine;
 use seq_inst::{Instance, is_leaf, root};
 
@@ -32,5 +31,5 @@ pub fn is_root(inst: &Instance, low: u64, line: &GroupLine) -> bool
     ensures { result ≡ is_root (problem_of inst.now) low line.now }
 {
     let all = root(inst);
-    is_leaf(inst, &all) || (is_same(&line.group, &all) && line.low == low)
+    is_leaf(inst, &all) || (line.group.is_same(&all) && line.low == low)
 }

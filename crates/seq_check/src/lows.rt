@@ -4,9 +4,9 @@ ghost use Rattle.std.specs.Prelude.{IfOk, OnOk, List, ◌∷◌, [], ◌++◌};
 ghost use Rattle.seq_cert.specs.declared.report.GroupLine.{GroupLine as Line};
 ghost use Rattle.seq_check.specs.Listed.{AreLows};
 
-use crate::groups_alike::know_group;
 use indexmap::IndexMap;
 use seq_cert::GroupLine;
+use seq_inst::{group_stands, same_words_hold};
 use std::alloc::{AllocError, Global};
 
 /// The low of each listed group, by the group's words.
@@ -16,8 +16,10 @@ pub type Lows = IndexMap<[u64; 8], u64>;
 fn note(lows: &mut Lows, line: &GroupLine) -> Result<(), AllocError>
     ensures { OnOk result ((lines : List Line) → AreLows lows.old lines → AreLows lows.new (lines ++ line.now ∷ [])) }
 {
-    know_group(&line.group);
-    if !lows.contains_key(&line.group.0) {
+    group_stands(&line.group);
+    same_words_hold();
+    let known = lows.contains_key(&line.group.0);
+    if !known {
         lows.insert(line.group.0, line.low)?;
     }
     Ok(())

@@ -6,18 +6,17 @@ ghost use Rattle.seq_check.specs.Looks.{first_bad};
 ghost use Rattle.seq_check.specs.GroupLooks.{is_listed, missed_looks};
 ghost use Rattle.seq_check.specs.Listed.{AreLows};
 
-use crate::groups_alike::know_group;
 use crate::looking::look;
 use crate::lows::Lows;
 use crate::sized::is_sized;
 use seq_cert::{BadCode, BadLine, MissedLine};
-use seq_inst::{Group, Instance};
+use seq_inst::{Group, Instance, group_stands};
 
 /// Whether the group is listed.
 fn is_listed(lows: &Lows, group: &Group) -> bool
     ensures { (lines : List Line) → AreLows lows.now lines → result ≡ is_listed lines group.now }
 {
-    know_group(group);
+    group_stands(group);
     lows.contains_key(&group.0)
 }
 

@@ -3,7 +3,7 @@ ghost use Rattle.std.specs.Prelude.{◌≡◌, ◌≤◌, [], ◌∷◌, codes, 
 
 use crate::check;
 use seq_cert::{BadCode, BadLine, ReportFault, read_report};
-use seq_inst::{Group, Instance, Verdict};
+use seq_inst::{Group, Instance, Verdict, checked_holds};
 use sig_lines::{Labels, StateLabel, TestLabel};
 use sig_types::{List, Text};
 use std::alloc::{AllocError, Global};
@@ -20,6 +20,7 @@ fn two_faults(alloc: Global) -> Result<Instance, AllocError>
         Group([5, 0, 0, 0, 0, 0, 0, 0]),
         Group([3, 0, 0, 0, 0, 0, 0, 0]),
     ]?;
+    checked_holds();
     Ok(Instance::new(weights, costs, passes))
 }
 

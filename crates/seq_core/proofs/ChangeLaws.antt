@@ -1,15 +1,13 @@
--- A change of one row that keeps its group keeps the places, what is kept, and the fitness of the rows; in the theory's
+-- A change of one row that keeps its group keeps the places and the fitness of the rows; in the theory's
 -- rows it is the theory's change.
 use Rattle.std.proofs.Common.{◌≡◌, ℕ, zero, suc, ◌<◌, max, min, List, [], ◌∷◌, length, get_or, set, refl, sym, ap, arith, inl, inr, subst}
 use Rattle.seq_theory.specs.Problem.{Problem}
 use Rattle.seq_theory.specs.Rows.{Row as TheoryRow, change_at}
 use Rattle.seq_inst.specs.declared.outcome.Row.{Row}
 use Rattle.seq_inst.specs.Members.{members}
-use Rattle.seq_core.specs.declared.worth.Worth.{Worth}
 use Rattle.seq_core.specs.Mapping.{Placed}
-use Rattle.seq_core.specs.WorthOf.{IsWorthOf}
 use Rattle.seq_core.specs.RowsOf.{row_of, rows_of, IsFit, AreFit}
-use Rattle.seq_core.specs.Tables.{numbered, AreWorthsOf}
+use Rattle.seq_core.specs.Tables.{numbered}
 use Rattle.seq_core.specs.Changes.{change_row, raised, capped}
 use Rattle.seq_core.proofs.TableLaws.{no_row}
 
@@ -27,13 +25,6 @@ pub numbered-change : (n : ℕ) (rows : List Row) (k : ℕ) (f : Row → Row) �
 numbered-change n [] k f same = refl
 numbered-change n (r ∷ rest) zero f same = ap (λ (g : List ℕ). record { group = g; place = n } ∷ numbered (suc n) rest) (ap members (same r))
 numbered-change n (r ∷ rest) (suc k) f same = ap (λ (l : List Placed). record { group = members r.group; place = n } ∷ l) (numbered-change (suc n) rest k f same)
-
-pub kept-change : (p : Problem) (rows : List Row) (kept : List Worth) (k : ℕ) (f : Row → Row) → ((r : Row) → (f r).group ≡ r.group) → AreWorthsOf p rows kept → AreWorthsOf p (change_row rows k f) kept
-kept-change p [] kept k f same a = a
-kept-change p (r ∷ rest) [] zero f same a = absurd a
-kept-change p (r ∷ rest) [] (suc k) f same a = absurd a
-kept-change p (r ∷ rest) (q ∷ kept) zero f same a = (subst (λ g. IsWorthOf p g q) (sym (ap members (same r))) a.0, a.1)
-kept-change p (r ∷ rest) (q ∷ kept) (suc k) f same a = (a.0, kept-change p rest kept k f same a.1)
 
 pub raised-rows : (rows : List Row) (k to : ℕ) → rows_of (change_row rows k (raised to)) ≡ change_at (rows_of rows) k (λ r. record { group = r.group; low = max r.low to; up = r.up })
 raised-rows [] k to = refl

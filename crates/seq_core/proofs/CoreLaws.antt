@@ -2,10 +2,11 @@
 use Rattle.std.proofs.Common.{◌≡◌, ℕ, ◌<◌, ◌≤◌, List, [], ◌∷◌, length, refl, sym, ap, ◌∙◌, arith, inl, inr, subst, Option, Some, None, Result, Ok, Err}
 use Rattle.std.specs.Prelude.{Bool, true, false, cond, nat_lt, nat_le, slice_get, IsOk, OnOk}
 use Rattle.std.proofs.lemmas.Bool.{lt-ltb, le-leb, ltb-true, leb-true, true≢false}
-use Rattle.seq_theory.specs.Problem.{Problem, IsSized, IsWithin}
+use Rattle.seq_theory.specs.Problem.{Problem, IsSized, IsWithin, IsWeighed, AreTold}
 use Rattle.seq_theory.specs.Graph.{is_entered, IsReal}
 use Rattle.seq_theory.specs.Greedy.{greedy_cost}
 use Rattle.seq_theory.specs.Rows.{Row as TheoryRow, groups_of, IsRow, IsSound, IsAllowed, enter, raise, cap, after, most_low, least_up}
+use Rattle.seq_theory.proofs.LeastLaws.{least, IsLeast-least, IsLeast-one}
 use Rattle.seq_theory.proofs.RowLaws.{events-sound, none-sound, sound-bounds, wanted-within}
 use Rattle.seq_theory.proofs.GreedyLaws.{least-le-greedy, bound-le-least}
 use Rattle.seq_inst.specs.declared.instance.Instance.{Instance}
@@ -13,15 +14,12 @@ use Rattle.seq_inst.specs.declared.outcome.Row.{Row}
 use Rattle.seq_inst.specs.Members.{members}
 use Rattle.seq_inst.specs.Instances.{problem_of}
 use Rattle.seq_huff.proofs.GreedyCode.{greedy-small}
-use Rattle.seq_huff.proofs.LeastBounds.{weighed}
 use Rattle.seq_core.specs.declared.event.Event.{Event}
 use Rattle.seq_core.specs.declared.event.Event.TheVariants.{Enter, Raise, Cap}
 use Rattle.seq_core.specs.declared.event.Illegal.{Illegal}
 use Rattle.seq_core.specs.declared.event.Illegal.TheVariants.{Limit, TooHigh, TooLow}
 use Rattle.seq_core.specs.RowsOf.{row_of, rows_of, place_in, AreFit}
-use Rattle.seq_core.specs.Numbered.{Numbered}
-use Rattle.seq_core.specs.Tables.{Table, IsTableOf}
-use Rattle.seq_core.specs.Events.{event_of, EntersReal, rows_after, enter_refusal, raise_refusal, cap_refusal, refusal, answer, CoreState, IsCoreOf}
+use Rattle.seq_core.specs.Events.{event_of, EntersReal, rows_after, enter_refusal, raise_refusal, cap_refusal, refusal, answer, AreBetween}
 use Rattle.seq_core.proofs.TableLaws.{rows_of-more, place-found, place-absent, found-entered}
 use Rattle.seq_core.proofs.ChangeLaws.{raised-rows, capped-rows}
 
@@ -41,21 +39,23 @@ sound-fit inst limit rows s x i =
     let within = wanted-within p x.group real.wanted in
     let c = row-code rows x i in
     let wc : IsWithin p (members (c.0).group) = subst (λ (y : TheoryRow). IsWithin p y.group) (sym c.1) within in
-    let between = sound-bounds p limit (rows_of rows) x (weighed inst) inst.valid.told s i in
+    let between = sound-bounds p limit (rows_of rows) x inst.stands.weighed inst.valid.told s i in
     let a = between.0 in
     let most = between.1 in
-    let under = bound-le-least p x.group (weighed inst) inst.valid.told within in
+    let under = bound-le-least p x.group inst.stands.weighed inst.valid.told within in
     let b = least-le-greedy p x.group inst.valid.told within in
     let g = ap (λ (y : TheoryRow). greedy_cost p y.group) c.1 in
     let d = greedy-small inst (c.0).group wc in
-    record { within = within; goals = real.goals; small = omega arith; above = omega arith }
+    record { within = within; goals = real.goals; small = omega arith }
 
--- the core of a table and numbers
-abbrev pub core_from : Table → Numbered → CoreState
-core_from t v = record { room = t.room; rows = t.rows; kept = t.kept; numbers = v }
-
-pub core-table : (inst : Instance) (t : Table) (v : Numbered) → IsCoreOf (problem_of inst) (core_from t v) → IsTableOf (problem_of inst) t
-core-table inst t v c = record { kept = c.kept; fit = sound-fit inst t.room t.rows c.sound }
+-- the least cost of each row's group lies between its low and its up
+pub rows-between : (p : Problem) (limit : ℕ) (rows : List TheoryRow) → IsWeighed p → AreTold p → IsSound p limit rows → AreBetween p rows
+rows-between p limit rows weighed told s r n i l =
+    let b = sound-bounds p limit rows r weighed told s i in
+    let e = IsLeast-one p r.group (least p r.group) n (IsLeast-least p r.group told (wanted-within p r.group (s.real r i).wanted)) l in
+    let b0 = b.0 in
+    let b1 = b.1 in
+    (omega arith, omega arith)
 
 pub sound-none : (p : Problem) (limit : ℕ) → IsSound p limit (rows_of [])
 sound-none p limit = none-sound p limit

@@ -9,7 +9,6 @@ use Rattle.seq_theory.specs.Graph.{IsWanted, IsReal, root, part}
 use Rattle.seq_theory.proofs.WantedLaws.{one_step-wanted}
 use Rattle.seq_inst.specs.declared.instance.Instance.{Instance}
 use Rattle.seq_inst.specs.Instances.{problem_of}
-use Rattle.seq_huff.proofs.LeastBounds.{weighed}
 use Rattle.seq_core.specs.Examples.{two_faults, star}
 
 -- all classes, where they have two goals
@@ -28,7 +27,7 @@ part-real inst q all group is ae ge goals there split le part_goals =
     let split_p : splits p (all_classes p) 0 ≡ true = subst (λ (x : Problem). splits x (all_classes x) 0 ≡ true) back split in
     let le_p : step_sum p (bound p) (all_classes p) 0 ≤ one_step p (all_classes p) = subst (λ (x : Problem). step_sum x (bound x) (all_classes x) 0 ≤ one_step x (all_classes x)) back le in
     let part_p : is_end p (pass_part p 0 (all_classes p)) ≡ false = subst (λ (x : Problem). is_end x (pass_part x 0 (all_classes x)) ≡ false) back part_goals in
-    let wanted : IsWanted p (part p 0 true (all_classes p)) = one_step-wanted p (all_classes p) 0 true (weighed inst) inst.valid.told root goals_p there_p split_p le_p in
+    let wanted : IsWanted p (part p 0 true (all_classes p)) = one_step-wanted p (all_classes p) 0 true inst.stands.weighed inst.valid.told root goals_p there_p split_p le_p in
     subst (IsReal p) (sym (ge ∙ ap (pass_part p 0) ae)) (record { wanted = wanted; goals = part_p })
 
 two_sum : step_sum two_faults (bound two_faults) (all_classes two_faults) 0 ≡ 27

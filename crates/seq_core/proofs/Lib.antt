@@ -1,14 +1,11 @@
+pub mod WordLaws
 pub mod MappingLaws
 pub mod TableLaws
 pub mod ChangeLaws
 pub mod SumLaws
-pub mod SkipLaws
 pub mod CoreLaws
 pub mod SettleLaws
 pub mod SettleSteps
 pub mod EnterAll
 pub mod EventLaws
 pub mod ExampleLaws
-pub mod NumberLaws
-pub mod ChoiceLaws
-pub mod KeptLaws

@@ -5,11 +5,11 @@ use Rattle.std.specs.Str.{bytes_eq}
 use Rattle.std.specs.Map.{keys_of, lookup}
 use Rattle.std.proofs.lemmas.Bool.{cases_Bool}
 use Rattle.std.proofs.lemmas.List.{length-map, map-append}
-use Rattle.seq_core.specs.Words.{IsWords, AreWords, classes_of}
+use Rattle.seq_core.specs.Words.{AreItsWords, AreWords, classes_of}
 use Rattle.seq_core.specs.Mapping.{place_of, placed_from}
-use Rattle.seq_core.proofs.NumberLaws.{same-classes, other-classes}
+use Rattle.seq_core.proofs.WordLaws.{same-classes, other-classes}
 
-pub placed-lookup : (entries : List (List ℕ × ℕ)) (words : List ℕ) → AreWords (keys_of entries) → IsWords words → place_of (placed_from entries) (classes_of words) ≡ lookup (bytes_eq words) entries
+pub placed-lookup : (entries : List (List ℕ × ℕ)) (words : List ℕ) → AreWords (keys_of entries) → AreItsWords words → place_of (placed_from entries) (classes_of words) ≡ lookup (bytes_eq words) entries
 placed-lookup [] words all w = refl
 placed-lookup (x ∷ rest) words all w = elim (cases_Bool (bytes_eq words x.0)) [
   | inl y ↦ rw (y, same-classes words x.0 y) refl

@@ -1,16 +1,14 @@
 -- One row settled after another, by size: each smaller group had its turn, so the row whose turn it is gets its low and its
 -- value, and the others stay as they were.
-use Rattle.std.proofs.Common.{◌≡◌, ◌≢◌, ◌⊎◌, ℕ, zero, suc, ◌+◌, ◌<◌, ◌≤◌, max, min, List, [], ◌∷◌, length, refl, sym, ap, ◌∙◌, arith, inl, inr, subst}
-use Rattle.std.specs.Prelude.{map, slice_index}
+use Rattle.std.proofs.Common.{◌≡◌, ◌≢◌, ◌⊎◌, ℕ, zero, suc, ◌+◌, ◌<◌, ◌≤◌, max, min, List, [], ◌∷◌, length, refl, sym, ap, ◌∙◌, arith, inl, inr, subst, Option, Some}
+use Rattle.std.specs.Prelude.{false, map, slice_index}
 use Rattle.std.proofs.lemmas.Bool.{cases_lt}
 use Rattle.std.proofs.lemmas.List.{get_or-map}
-use Rattle.seq_theory.specs.Problem.{Problem, IsWithin}
-use Rattle.seq_theory.specs.Bound.{bound}
+use Rattle.seq_theory.specs.Problem.{Problem, IsWithin, is_end}
 use Rattle.seq_theory.specs.Graph.{low, val}
-use Rattle.seq_theory.specs.Rows.{most_low, least_up}
+use Rattle.seq_theory.specs.Rows.{Row as TheoryRow, IsRow, most_low, least_up}
 use Rattle.seq_theory.proofs.LowLaws.{low-le-least}
-use Rattle.seq_theory.proofs.GreedyLaws.{least-le-greedy, bound-le-least}
-use Rattle.seq_theory.proofs.ValLaws.{least-le-val}
+use Rattle.seq_theory.proofs.GreedyLaws.{least-le-greedy}
 use Rattle.seq_inst.specs.declared.group.Group.{Group}
 use Rattle.seq_inst.specs.declared.instance.Instance.{Instance}
 use Rattle.seq_inst.specs.declared.outcome.Row.{Row}
@@ -20,15 +18,13 @@ use Rattle.seq_huff.specs.Bounds.{greatest_cost}
 use Rattle.seq_huff.specs.Orders.{IsUpwardBy}
 use Rattle.seq_huff.proofs.CountedLaws.{counted-length, counted-there, counted-below}
 use Rattle.seq_huff.proofs.GreedyCode.{greedy-small}
-use Rattle.seq_huff.proofs.LeastBounds.{weighed}
-use Rattle.seq_core.specs.RowsOf.{row_of, rows_of}
+use Rattle.seq_core.specs.RowsOf.{row_of, rows_of, IsFit, AreFit}
 use Rattle.seq_core.specs.Changes.{new_row, change_row, raised, capped}
-use Rattle.seq_core.specs.Tables.{Table, IsTableOf}
 use Rattle.seq_core.specs.Allowed.{IsMostLow, IsLeastUp, tight_row, tightened}
 use Rattle.seq_core.specs.Settled.{groups_in, value_or, AreGroups, settled_row, settled_rows, first_row, row_at, size_at, sizes_of, AreDoneBelow, IsAmongFirst, IsSettledTo}
 use Rattle.seq_core.proofs.TableLaws.{get-row, row-among}
-use Rattle.seq_core.proofs.ChangeLaws.{kept-change, fit-change, length-change}
-use Rattle.seq_core.proofs.SettleLaws.{group-at, value-at, raised-settled, capped-settled, settled-more, settled-all, fresh-settling}
+use Rattle.seq_core.proofs.ChangeLaws.{fit-change, length-change}
+use Rattle.seq_core.proofs.SettleLaws.{HasValue, group-at, value-at, raised-settled, capped-settled, settled-more, settled-all, fresh-settling}
 
 change-same : (rows : List Row) (k : ℕ) (f : Row → Row) → k < length rows → row_at (change_row rows k f) k ≡ f (row_at rows k)
 change-same [] k f lt = absurd (let bad : ⊥ = omega arith in bad)
@@ -67,20 +63,9 @@ tightened-is p rows k n m there low_is up_is =
 -- the low of a group fits
 low-fits : (inst : Instance) (entered : List (List ℕ)) (g : Group) → IsWithin (problem_of inst) (members g) → low (problem_of inst) entered (members g) ≤ greatest_cost
 low-fits inst entered g within =
-    let a = low-le-least (problem_of inst) entered (members g) (weighed inst) inst.valid.told within in
+    let a = low-le-least (problem_of inst) entered (members g) inst.stands.weighed inst.valid.told within in
     let b = least-le-greedy (problem_of inst) (members g) inst.valid.told within in
     let c = greedy-small inst g within in
-    omega arith
-
--- the bound is at most the value
-bound-le-value : (inst : Instance) (rows : List Row) (k : ℕ) → AreGroups (problem_of inst) rows → k < length rows → bound (problem_of inst) (members (row_at rows k).group) ≤ value_or (val (problem_of inst) (groups_in rows) (members (row_at rows k).group))
-bound-le-value inst rows k groups there =
-    let p = problem_of inst in
-    let at = group-at p rows k groups there in
-    let v = value-at inst rows k groups there in
-    let a = bound-le-least p (members (row_at rows k).group) (weighed inst) inst.valid.told at.within in
-    let b = least-le-val p (groups_in rows) (members (row_at rows k).group) v.value inst.valid.told at.within v.is in
-    let e = ap value_or v.is in
     omega arith
 
 abbrev pub HasOrder : List Row → List ℕ → Type 0
@@ -121,49 +106,50 @@ turns-all rows order n by e k lt =
     let l = at.1 in
     (at.0, omega arith, at.2)
 
-pub settled-next : (inst : Instance) (rows : List Row) (t : Table) (order : List ℕ) (n : ℕ) → HasOrder rows order → n < length order → IsSettledTo (problem_of inst) rows t order n
-    → IsSettledTo (problem_of inst) rows (record { room = t.room; rows = tightened (problem_of inst) t.rows (slice_index order n); kept = t.kept }) order (n + 1)
-settled-next inst rows t order n by lt s =
+-- rows of which nothing is known fit
+fresh-fit : (p : Problem) (rows : List Row) → ((r : TheoryRow) → IsRow r (rows_of rows) → IsWithin p r.group) → ((r : TheoryRow) → IsRow r (rows_of rows) → is_end p r.group ≡ false) → AreFit p (rows_of (map (λ r. new_row r.group) rows))
+fresh-fit p [] within goals x i = absurd i
+fresh-fit p (r ∷ rest) within goals x (inl e) = subst (IsFit p) e (record { within = within (row_of r) (inl refl); goals = goals (row_of r) (inl refl); small = omega arith })
+fresh-fit p (r ∷ rest) within goals x (inr i) = fresh-fit p rest (λ y j. within y (inr j)) (λ y j. goals y (inr j)) x i
+
+pub settled-next : (inst : Instance) (rows now : List Row) (order : List ℕ) (n : ℕ) → HasOrder rows order → n < length order → IsSettledTo (problem_of inst) rows now order n
+    → IsSettledTo (problem_of inst) rows (tightened (problem_of inst) now (slice_index order n)) order (n + 1)
+settled-next inst rows now order n by lt s =
     let p = problem_of inst in
     let entered = groups_in rows in
     let k = slice_index order n in
     let many = counted-length (length rows) order by.each_once in
     let there : k < length rows = counted-below (length rows) order by.each_once n (omega arith) in
     let long = s.settling.many in
-    let lt_now : k < length t.rows = omega arith in
+    let lt_now : k < length now = omega arith in
     let below = turns-below rows order n by lt in
     let same = (s.settling.each k there).group in
     let g = members (row_at rows k).group in
     let at = group-at p rows k s.settling.groups there in
-    let r = row_at t.rows k in
-    let low_is : max r.low (most_low p (rows_of t.rows) (members r.group)) ≡ low p entered g =
-    ap (λ (x : Group). max r.low (most_low p (rows_of t.rows) (members x))) same ∙ raised-settled inst rows t.rows (IsAmongFirst order n) s.settling k there below in
-    let up_is : min r.up (least_up p (rows_of t.rows) (members r.group)) ≡ value_or (val p entered g) =
-    ap (λ (x : Group). min r.up (least_up p (rows_of t.rows) (members x))) same ∙ capped-settled inst rows t.rows (IsAmongFirst order n) s.settling k there below in
-    let settled : tight_row p t.rows r ≡ settled_row p entered (row_at rows k) =
-    ap (λ (x : Group). record { group = x; low = max r.low (most_low p (rows_of t.rows) (members r.group)); up = min r.up (least_up p (rows_of t.rows) (members r.group)) }) same
-    ∙ ap (λ x. record { group = (row_at rows k).group; low = x; up = min r.up (least_up p (rows_of t.rows) (members r.group)) }) low_is
+    let r = row_at now k in
+    let low_is : max r.low (most_low p (rows_of now) (members r.group)) ≡ low p entered g =
+    ap (λ (x : Group). max r.low (most_low p (rows_of now) (members x))) same ∙ raised-settled inst rows now (IsAmongFirst order n) s.settling k there below in
+    let up_is : min r.up (least_up p (rows_of now) (members r.group)) ≡ value_or (val p entered g) =
+    ap (λ (x : Group). min r.up (least_up p (rows_of now) (members x))) same ∙ capped-settled inst rows now (IsAmongFirst order n) s.settling k there below in
+    let settled : tight_row p now r ≡ settled_row p entered (row_at rows k) =
+    ap (λ (x : Group). record { group = x; low = max r.low (most_low p (rows_of now) (members r.group)); up = min r.up (least_up p (rows_of now) (members r.group)) }) same
+    ∙ ap (λ x. record { group = (row_at rows k).group; low = x; up = min r.up (least_up p (rows_of now) (members r.group)) }) low_is
     ∙ ap (λ x. record { group = (row_at rows k).group; low = low p entered g; up = x }) up_is in
     let fits = low-fits inst entered (row_at rows k).group at.within in
-    let above = bound-le-value inst rows k s.settling.groups there in
-    let same_bound = ap (λ (x : Group). bound p (members x)) same in
-    let fit = s.of.fit (row_of r) (row-among t.rows k lt_now) in
+    let fit = s.fit (row_of r) (row-among now k lt_now) in
     record {
-      of = record {
-        kept = kept-change p t.rows t.kept k (tight_row p t.rows) (λ x. refl) s.of.kept;
-        fit = fit-change p t.rows k (tight_row p t.rows) (record { within = fit.within; goals = fit.goals; small = omega arith; above = omega arith }) s.of.fit;
-      };
-      settling = settled-more p rows t.rows (tightened p t.rows k) (IsAmongFirst order n) (IsAmongFirst order (n + 1)) k s.settling (length-change t.rows k (tight_row p t.rows))
-          (change-same t.rows k (tight_row p t.rows) lt_now ∙ settled)
-          (λ j ne. change-other t.rows k j (tight_row p t.rows) ne)
+      fit = fit-change p now k (tight_row p now) (record { within = fit.within; goals = fit.goals; small = omega arith }) s.fit;
+      settling = settled-more p rows now (tightened p now k) (IsAmongFirst order n) (IsAmongFirst order (n + 1)) k s.settling (length-change now k (tight_row p now))
+          (change-same now k (tight_row p now) lt_now ∙ settled)
+          (λ j ne. change-other now k j (tight_row p now) ne)
           (turns-next order n);
     }
 
-pub settled-none : (inst : Instance) (rows : List Row) (t : Table) (order : List ℕ) → AreGroups (problem_of inst) rows → IsTableOf (problem_of inst) t → t.rows ≡ map (λ r. new_row r.group) rows → IsSettledTo (problem_of inst) rows t order 0
-settled-none inst rows t order groups of is =
-    let start = fresh-settling inst rows t.rows groups is in
+pub settled-none : (inst : Instance) (rows now : List Row) (order : List ℕ) → AreGroups (problem_of inst) rows → now ≡ map (λ r. new_row r.group) rows → IsSettledTo (problem_of inst) rows now order 0
+settled-none inst rows now order groups is =
+    let start = fresh-settling inst rows now groups is in
     record {
-      of = of;
+      fit = subst (λ l. AreFit (problem_of inst) (rows_of l)) (sym is) (fresh-fit (problem_of inst) rows groups.within groups.goals);
       settling = record {
         groups = groups;
         many = start.many;
@@ -172,8 +158,8 @@ settled-none inst rows t order groups of is =
       };
     }
 
-pub settled-end : (p : Problem) (rows : List Row) (t : Table) (order : List ℕ) (n : ℕ) → HasOrder rows order → n ≡ length order → IsSettledTo p rows t order n → t.rows ≡ settled_rows p rows
-settled-end p rows t order n by e s = settled-all p rows t.rows (IsAmongFirst order n) s.settling (turns-all rows order n by e)
+pub settled-end : (p : Problem) (rows now : List Row) (order : List ℕ) (n : ℕ) → HasOrder rows order → n ≡ length order → IsSettledTo p rows now order n → now ≡ settled_rows p rows
+settled-end p rows now order n by e s = settled-all p rows now (IsAmongFirst order n) s.settling (turns-all rows order n by e)
 
 -- the lows and the ups of settled rows
 lows-of : (p : Problem) (entered : List (List ℕ)) (rows : List Row) → map (λ (r : Row). r.low) (map (settled_row p entered) rows) ≡ map (low p entered) (groups_in rows)
@@ -183,9 +169,17 @@ lows-of p entered (r ∷ rest) = ap (λ (l : List ℕ). low p entered (members r
 pub lows-settled : (p : Problem) (rows settled : List Row) → settled ≡ settled_rows p rows → map (λ (r : Row). r.low) settled ≡ map (low p (groups_in rows)) (groups_in rows)
 lows-settled p rows settled e = ap (map (λ (r : Row). r.low)) e ∙ lows-of p (groups_in rows) rows
 
-ups-of : (p : Problem) (entered : List (List ℕ)) (rows : List Row) → map (λ (r : Row). r.up) (map (settled_row p entered) rows) ≡ map (λ g. value_or (val p entered g)) (groups_in rows)
-ups-of p entered [] = refl
-ups-of p entered (r ∷ rest) = ap (λ (l : List ℕ). value_or (val p entered (members r.group)) ∷ l) (ups-of p entered rest)
+-- each group of the rows has a value
+ups-of : (p : Problem) (entered : List (List ℕ)) (rows : List Row) → ((k : ℕ) → k < length rows → HasValue p entered (members (row_at rows k).group)) → map (λ n. Some n) (map (λ (r : Row). r.up) (map (settled_row p entered) rows)) ≡ map (val p entered) (groups_in rows)
+ups-of p entered [] has = refl
+ups-of p entered (r ∷ rest) has =
+    let v = has 0 (omega arith) in
+    ap (λ (o : Option ℕ). Some (value_or o) ∷ map (λ n. Some n) (map (λ (x : Row). x.up) (map (settled_row p entered) rest))) v.is
+    ∙ ap (λ (l : List (Option ℕ)). Some v.value ∷ l) (ups-of p entered rest (λ k lt. has (suc k) (omega arith)))
+    ∙ ap (λ (o : Option ℕ). o ∷ map (val p entered) (groups_in rest)) (sym v.is)
 
-pub ups-settled : (p : Problem) (rows settled : List Row) → settled ≡ settled_rows p rows → map (λ (r : Row). r.up) settled ≡ map (λ g. value_or (val p (groups_in rows) g)) (groups_in rows)
-ups-settled p rows settled e = ap (map (λ (r : Row). r.up)) e ∙ ups-of p (groups_in rows) rows
+pub ups-settled : (inst : Instance) (rows settled : List Row) → AreGroups (problem_of inst) rows → settled ≡ settled_rows (problem_of inst) rows
+    → map (λ n. Some n) (map (λ (r : Row). r.up) settled) ≡ map (val (problem_of inst) (groups_in rows)) (groups_in rows)
+ups-settled inst rows settled groups e =
+    let p = problem_of inst in
+    ap (λ l. map (λ n. Some n) (map (λ (r : Row). r.up) l)) e ∙ ups-of p (groups_in rows) rows (λ k lt. value-at inst rows k groups lt)

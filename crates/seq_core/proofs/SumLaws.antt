@@ -1,7 +1,7 @@
 -- Sums over a group's tests: the sum of one test fits a word, and the least of greedy's cost and the sums of ups is the
 -- same where sums stop at the greatest word, since greedy's cost is no greater than that.
 use Rattle.std.proofs.Common.{◌≡◌, ℕ, ◌*◌, ◌<◌, ◌≤◌, max, min, List, [], ◌∷◌, ◌++◌, length, get_or, refl, sym, ap, ◌∙◌, arith, Option, Some, None}
-use Rattle.std.specs.Prelude.{map}
+use Rattle.std.specs.Prelude.{map, slice_get}
 use Rattle.std.specs.List.{filter_map, cons_option}
 use Rattle.seq_theory.specs.Problem.{Problem, IsWithin, weight_of, least_of, splitting}
 use Rattle.seq_theory.specs.Bound.{step_sum, bound}
@@ -13,20 +13,18 @@ use Rattle.seq_inst.specs.declared.instance.Instance.{Instance}
 use Rattle.seq_inst.specs.declared.outcome.Row.{Row}
 use Rattle.seq_inst.specs.Members.{members}
 use Rattle.seq_inst.specs.Instances.{problem_of}
-use Rattle.seq_inst.proofs.WithinLaws.{light}
-use Rattle.seq_huff.proofs.BoundFits.{product-le}
+use Rattle.seq_theory.proofs.BelowLaws.{product-le}
+use Rattle.seq_theory.proofs.LeastOfLaws.{lesser as theory_lesser}
 use Rattle.seq_theory.proofs.ValLaws.{least_of-first}
-use Rattle.seq_core.specs.declared.worth.Worth.{Worth}
 use Rattle.seq_core.specs.RowsOf.{row_of, rows_of}
-use Rattle.seq_core.specs.Tables.{AreWorthsOf}
 use Rattle.seq_core.specs.Allowed.{IsMostLow, IsLeastUp}
 use Rattle.seq_core.specs.Sums.{lesser, capped_value}
-use Rattle.seq_core.proofs.TableLaws.{no_row, no_kept, get-row, kept-at}
+use Rattle.seq_core.proofs.TableLaws.{no_row, get-row}
 
 -- the cost of a test times the weight of a group
 pub first-fits : (inst : Instance) (g : Group) (cost weight test : ℕ) → IsWithin (problem_of inst) (members g) → test < (problem_of inst).tests → cost ≡ (problem_of inst).cost test → weight ≡ weight_of (problem_of inst) (members g) → cost * weight ≤ 4097000000000000
 first-fits inst g cost weight test within there ce we =
-    let l = light inst g within in
+    let l = inst.stands.light g within in
     let c = (inst.valid.costs test there).1 in
     let m = product-le cost weight 1000000 4097000000 (omega arith) (omega arith) in
     omega arith
@@ -36,26 +34,20 @@ first-fits inst g cost weight test within there ce we =
 pub some-row : (a b : TheoryRow) (o : Option TheoryRow) → o ≡ Some a → o ≡ Some b → a ≡ b
 some-row a b o e f = cc
 
-pub allowed-low : (p : Problem) (rows : List Row) (kept : List Worth) (place bound_kept least n : ℕ) → AreWorthsOf p rows kept → place < length rows → bound_kept ≡ (get_or kept place no_kept).bound
-    → least ≡ least_of (map (step_sum p (known_low p (rows_of rows)) (members (get_or rows place no_row).group)) (splitting p (members (get_or rows place no_row).group)))
-    → n ≡ max bound_kept least → IsMostLow p rows place n
-allowed-low p rows kept place b least n a there be le ne r at =
-    let g = members (get_or rows place no_row).group in
-    let is : row_of (get_or rows place no_row) ≡ r = some-row _ _ _ (get-row rows place there) at in
-    let k = kept-at p rows kept place a there in
-    let bound_is : b ≡ bound p g = be ∙ k.bound in
-    let value : n ≡ most_low p (rows_of rows) g = ne ∙ ap (λ x. max x least) bound_is ∙ ap (max (bound p g)) le in
-    value ∙ ap (λ (x : TheoryRow). most_low p (rows_of rows) x.group) is
+module _ (p : Problem) (rows : List Row) (place : ℕ) (there : place < length rows) where
+  row-is : (r : TheoryRow) → slice_get (rows_of rows) place ≡ Some r → row_of (get_or rows place no_row) ≡ r
+  row-is r at = some-row _ _ _ (get-row rows place there) at
 
-pub allowed-up : (p : Problem) (rows : List Row) (kept : List Worth) (place greedy n : ℕ) → AreWorthsOf p rows kept → place < length rows → greedy ≡ (get_or kept place no_kept).greedy
-    → n ≡ least_of (greedy ∷ filter_map (step_value p (known_up p (rows_of rows)) (members (get_or rows place no_row).group)) (splitting p (members (get_or rows place no_row).group)))
-    → IsLeastUp p rows place n
-allowed-up p rows kept place greedy n a there ge ne r at =
-    let g = members (get_or rows place no_row).group in
-    let is : row_of (get_or rows place no_row) ≡ r = some-row _ _ _ (get-row rows place there) at in
-    let k = kept-at p rows kept place a there in
-    let value : n ≡ least_up p (rows_of rows) g = ne ∙ ap (λ x. least_of (x ∷ filter_map (step_value p (known_up p (rows_of rows)) g) (splitting p g))) (ge ∙ k.greedy) in
-    value ∙ ap (λ (x : TheoryRow). least_up p (rows_of rows) x.group) is
+  pub allowed-low : (n : ℕ) → n ≡ most_low p (rows_of rows) (members (get_or rows place no_row).group) → IsMostLow p rows place n
+  allowed-low n e r at = e ∙ ap (λ (x : TheoryRow). most_low p (rows_of rows) x.group) (row-is r at)
+
+  pub allowed-up : (n : ℕ) → n ≡ least_up p (rows_of rows) (members (get_or rows place no_row).group) → IsLeastUp p rows place n
+  allowed-up n e r at = e ∙ ap (λ (x : TheoryRow). least_up p (rows_of rows) x.group) (row-is r at)
+
+-- the lesser of two, as the theory writes it
+pub lesser-number : (o : Option ℕ) (n : ℕ) → lesser o n ≡ theory_lesser o n
+lesser-number None n = refl
+lesser-number (Some m) n = refl
 
 -- ---- sums of ups ----
 

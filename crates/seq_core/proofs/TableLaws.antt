@@ -1,5 +1,4 @@
--- Rows found by their groups: the map has the place of each row, a place leads to its row, and what is kept stands beside
--- it.
+-- Rows found by their groups: the map has the place of each row, and a place leads to its row.
 use Rattle.std.proofs.Common.{◌≡◌, ◌⊎◌, ℕ, zero, suc, ◌+◌, ◌<◌, max, List, [], ◌∷◌, ◌++◌, length, get_or, refl, sym, ap, ◌∙◌, arith, inl, inr, subst, Option, Some, None}
 use Rattle.std.specs.Prelude.{true, false, cond, slice_get, nat_eq}
 use Rattle.std.specs.Option.{option_map}
@@ -13,17 +12,12 @@ use Rattle.seq_theory.proofs.RowLaws.{same_group-true, same_group-refl}
 use Rattle.seq_inst.specs.declared.outcome.Row.{Row}
 use Rattle.seq_inst.specs.Members.{members}
 use Rattle.seq_inst.specs.Valid.{no_class}
-use Rattle.seq_core.specs.declared.worth.Worth.{Worth}
 use Rattle.seq_core.specs.Mapping.{Placed, place_of}
-use Rattle.seq_core.specs.WorthOf.{IsWorthOf}
 use Rattle.seq_core.specs.RowsOf.{row_of, rows_of, place_in, IsFit, AreFit}
-use Rattle.seq_core.specs.Tables.{Table, numbered, AreWorthsOf, IsTableOf}
+use Rattle.seq_core.specs.Tables.{numbered}
 
 abbrev pub no_row : Row
 no_row = record { group = no_class; low = 0; up = 0 }
-
-abbrev pub no_kept : Worth
-no_kept = record { weight = 0; bound = 0; greedy = 0 }
 
 pub length-rows_of : (rows : List Row) → length (rows_of rows) ≡ length rows
 length-rows_of [] = refl
@@ -125,37 +119,7 @@ get-row [] k lt = absurd (let bad : ⊥ = omega arith in bad)
 get-row (r ∷ rest) zero lt = refl
 get-row (r ∷ rest) (suc k) lt = get-row rest k (omega arith)
 
--- ---- what is kept stands beside it ----
-
-pub length-kept : (p : Problem) (rows : List Row) (kept : List Worth) → AreWorthsOf p rows kept → length kept ≡ length rows
-length-kept p [] [] a = refl
-length-kept p [] (k ∷ kept) a = absurd a
-length-kept p (r ∷ rows) [] a = absurd a
-length-kept p (r ∷ rows) (k ∷ kept) a = ap suc (length-kept p rows kept a.1)
-
-pub kept-at : (p : Problem) (rows : List Row) (kept : List Worth) (k : ℕ) → AreWorthsOf p rows kept → k < length rows → IsWorthOf p (members (get_or rows k no_row).group) (get_or kept k no_kept)
-kept-at p [] kept k a lt = absurd (let bad : ⊥ = omega arith in bad)
-kept-at p (r ∷ rows) [] k a lt = absurd a
-kept-at p (r ∷ rows) (q ∷ kept) zero a lt = a.0
-kept-at p (r ∷ rows) (q ∷ kept) (suc k) a lt = kept-at p rows kept k a.1 (omega arith)
-
--- what is read at a place
-pub record ReadAt (p : Problem) (row : Row) (k : Worth) : Type 0 where
-  pub within : IsWithin p (members row.group)
-  pub kept : IsWorthOf p (members row.group) k
-
-pub read-at : (p : Problem) (t : Table) (place : ℕ) (row : Row) (k : Worth) → IsTableOf p t → place < length t.rows → row ≡ get_or t.rows place no_row → k ≡ get_or t.kept place no_kept → ReadAt p row k
-read-at p t place row k of there re ke = record {
-  within = (let f = of.fit _ (row-among t.rows place there) in subst (λ (r : Row). IsWithin p (members r.group)) (sym re) f.within);
-  kept = (let a = kept-at p t.rows t.kept place of.kept there in
-      subst (λ (r : Row). IsWorthOf p (members r.group) k) (sym re) (subst (IsWorthOf p (members (get_or t.rows place no_row).group)) (sym ke) a));
-}
-
-pub kept-more : (p : Problem) (rows : List Row) (kept : List Worth) (r : Row) (k : Worth) → AreWorthsOf p rows kept → IsWorthOf p (members r.group) k → AreWorthsOf p (rows ++ r ∷ []) (kept ++ k ∷ [])
-kept-more p [] [] r k a b = (b, tt)
-kept-more p [] (q ∷ kept) r k a b = absurd a
-kept-more p (s ∷ rows) [] r k a b = absurd a
-kept-more p (s ∷ rows) (q ∷ kept) r k a b = (a.0, kept-more p rows kept r k a.1 b)
+-- ---- one row more ----
 
 pub rows_of-more : (rows : List Row) (r : Row) → rows_of (rows ++ r ∷ []) ≡ rows_of rows ++ row_of r ∷ []
 rows_of-more [] r = refl
@@ -178,12 +142,8 @@ fit-more p rows r a b = subst (AreFit p) (sym (rows_of-more rows r)) (λ x i. el
 pub known_low-end : (p : Problem) (rows : List TheoryRow) (g : List ℕ) → is_end p g ≡ true → 0 ≡ known_low p rows g
 known_low-end p rows g e = rw e refl
 
-pub known_low-found : (p : Problem) (rows : List Row) (kept : List Worth) (g : List ℕ) (k : ℕ) → AreWorthsOf p rows kept → is_end p g ≡ false → place_in (rows_of rows) g ≡ Some k → known_low p (rows_of rows) g ≡ max (get_or rows k no_row).low (get_or kept k no_kept).bound
-known_low-found p rows kept g k a e at =
-    let f = place-found rows g k at in
-    let b = kept-at p rows kept k a f.there in
-    let same : bound p g ≡ (get_or kept k no_kept).bound = ap (bound p) f.same ∙ sym b.bound in
-    rw e (ap (low_or (bound p g)) f.first ∙ ap (max (get_or rows k no_row).low) same)
+pub known_low-found : (p : Problem) (rows : List Row) (g : List ℕ) (k : ℕ) → is_end p g ≡ false → place_in (rows_of rows) g ≡ Some k → known_low p (rows_of rows) g ≡ max (get_or rows k no_row).low (bound p g)
+known_low-found p rows g k e at = rw e (ap (low_or (bound p g)) (place-found rows g k at).first)
 
 pub known_low-absent : (p : Problem) (rows : List Row) (g : List ℕ) → is_end p g ≡ false → place_in (rows_of rows) g ≡ None → bound p g ≡ known_low p (rows_of rows) g
 known_low-absent p rows g e at = sym (rw e (ap (low_or (bound p g)) (place-absent rows g at).no_row))

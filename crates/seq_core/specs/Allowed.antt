@@ -6,8 +6,6 @@ use Rattle.seq_inst.specs.declared.outcome.Row.{Row}
 use Rattle.seq_inst.specs.Members.{members}
 use Rattle.seq_core.specs.RowsOf.{rows_of}
 use Rattle.seq_core.specs.Changes.{change_row}
-use Rattle.seq_core.specs.declared.greedy.Estimates.{Estimates}
-use Rattle.seq_core.specs.Choice.{AreEstimates}
 
 -- the most to which the row at the place may be raised
 abbrev pub IsMostLow : Problem → List Row → ℕ → ℕ → Type 0
@@ -24,7 +22,3 @@ tight_row p rows r = record { group = r.group; low = max r.low (most_low p (rows
 -- the rows with the one at the place so
 abbrev pub tightened : Problem → List Row → ℕ → List Row
 tightened p rows place = change_row rows place (tight_row p rows)
-
--- estimates of the group of the row at the place
-abbrev pub AreEstimatesAt : Problem → List Row → ℕ → Estimates → Type 0
-AreEstimatesAt p rows place e = (r : TheoryRow) → slice_get (rows_of rows) place ≡ Some r → AreEstimates p r.group e

@@ -1,8 +1,9 @@
 -- The events of the code as the theory's, and when one is refused.
-use Rattle.std.specs.Prelude.{ℕ, cond, nat_lt, nat_le, List, [], ◌∷◌, ◌++◌, length, Option, Some, None, Result, Ok, Err, slice_get}
+use Rattle.std.specs.Prelude.{ℕ, ◌≤◌, cond, nat_lt, nat_le, List, [], ◌∷◌, ◌++◌, length, Option, Some, None, Result, Ok, Err, slice_get}
 use Rattle.seq_theory.specs.Problem.{Problem}
+use Rattle.seq_theory.specs.Tree.{IsLeast}
 use Rattle.seq_theory.specs.Graph.{IsReal}
-use Rattle.seq_theory.specs.Rows.{Row as TheoryRow, Event as TheoryEvent, enter, raise, cap, most_low, least_up, IsSound}
+use Rattle.seq_theory.specs.Rows.{Row as TheoryRow, Event as TheoryEvent, enter, raise, cap, most_low, least_up, IsRow, IsSound}
 use Rattle.seq_inst.specs.declared.outcome.Row.{Row}
 use Rattle.seq_inst.specs.Members.{members}
 use Rattle.seq_core.specs.declared.event.Event.{Event}
@@ -11,9 +12,7 @@ use Rattle.seq_core.specs.declared.event.Illegal.{Illegal}
 use Rattle.seq_core.specs.declared.event.Illegal.TheVariants.{Repeated, Limit, NoPlace, TooHigh, TooLow}
 use Rattle.seq_core.specs.RowsOf.{rows_of, place_in}
 use Rattle.seq_core.specs.Changes.{change_row, new_row, raised, capped}
-use Rattle.seq_core.specs.declared.worth.Worth.{Worth}
-use Rattle.seq_core.specs.Numbered.{Numbered, AreNumbers}
-use Rattle.seq_core.specs.Tables.{AreWorthsOf}
+use Rattle.seq_core.specs.Tables.{Table}
 
 abbrev pub event_of : Event → TheoryEvent
 event_of (Enter group) = enter (members group)
@@ -57,16 +56,10 @@ abbrev pub answer : Option Illegal → Result (Unit {0}) Illegal
 answer None = Ok tt
 answer (Some illegal) = Err illegal
 
--- the core: so many rows it may have, those that it has in the order of entering, what it keeps of each of their groups,
--- and the numbers by which it works out bounds
-pub record CoreState : Type 0 where
-  pub room : ℕ
-  pub rows : List Row
-  pub kept : List Worth
-  pub numbers : Numbered
-
--- the core is of this problem: its rows are sound, what it keeps of their groups was worked out in it, and the numbers are its
-pub record IsCoreOf (p : Problem) (c : CoreState) : Type 0 where
-  pub kept : AreWorthsOf p c.rows c.kept
+-- the core is of this problem: its rows are sound
+pub record IsCoreOf (p : Problem) (c : Table) : Type 0 where
   pub sound : IsSound p c.room (rows_of c.rows)
-  pub numbers : AreNumbers p c.numbers
+
+-- the least cost of each row's group lies between its low and its up
+abbrev pub AreBetween : Problem → List TheoryRow → Type 0
+AreBetween p rows = (r : TheoryRow) (least : ℕ) → IsRow r rows → IsLeast p r.group least → (r.low ≤ least) × (least ≤ r.up)

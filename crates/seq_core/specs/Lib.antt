@@ -1,11 +1,7 @@
 pub mod Mapping
 pub mod RowsOf
 pub mod Entered
-pub mod WorthOf
 pub mod Words
-pub mod Numbered
-pub mod Choice
-pub mod KeptOf
 pub mod Changes
 pub mod Tables
 pub mod Sums

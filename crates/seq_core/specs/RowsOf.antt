@@ -3,7 +3,6 @@ use Rattle.std.specs.Prelude.{◌≡◌, ℕ, cond, false, ◌≤◌, List, [], 
 use Rattle.std.specs.Option.{option_map}
 use Rattle.std.proofs.Common.{suc}
 use Rattle.seq_theory.specs.Problem.{Problem, IsWithin, is_end}
-use Rattle.seq_theory.specs.Bound.{bound}
 use Rattle.seq_theory.specs.Graph.{same_group}
 use Rattle.seq_theory.specs.Rows.{Row as TheoryRow, IsRow}
 use Rattle.seq_inst.specs.declared.outcome.Row.{Row}
@@ -21,12 +20,11 @@ abbrev pub place_in : List TheoryRow → List ℕ → Option ℕ
 place_in [] group = None
 place_in (r ∷ rest) group = cond (same_group group r.group) (Some 0) (option_map suc (place_in rest group))
 
--- a row of two goals or more within the classes, with a low that a sum has room for and an up that is at least the bound
+-- a row of two goals or more within the classes, with a low that a sum has room for
 pub record IsFit (p : Problem) (r : TheoryRow) : Type 0 where
   pub within : IsWithin p r.group
   pub goals : is_end p r.group ≡ false
   pub small : r.low ≤ greatest_cost
-  pub above : bound p r.group ≤ r.up
 
 abbrev pub AreFit : Problem → List TheoryRow → Type 0
 AreFit p rows = (r : TheoryRow) → IsRow r rows → IsFit p r

@@ -7,8 +7,7 @@ use Rattle.seq_theory.specs.Rows.{Row as TheoryRow}
 use Rattle.seq_inst.specs.declared.outcome.Row.{Row}
 use Rattle.seq_inst.specs.Members.{members}
 use Rattle.seq_inst.specs.Valid.{no_class}
-use Rattle.seq_core.specs.RowsOf.{rows_of}
-use Rattle.seq_core.specs.Tables.{Table, IsTableOf}
+use Rattle.seq_core.specs.RowsOf.{rows_of, AreFit}
 
 -- the groups of the rows
 abbrev pub groups_in : List Row → List (List ℕ)
@@ -68,7 +67,7 @@ AreDoneBelow rows isDone size = (j : ℕ) → j < length rows → size_at rows j
 abbrev pub IsAmongFirst : List ℕ → ℕ → ℕ → Type 0
 IsAmongFirst order n place = (s : ℕ) × (s < n) × (slice_index order s ≡ place)
 
--- the table has a row for each of these rows, and those at the first so many places of an order are settled
-pub record IsSettledTo (p : Problem) (rows : List Row) (t : Table) (order : List ℕ) (n : ℕ) : Type 0 where
-  pub of : IsTableOf p t
-  pub settling : AreSettling p rows t.rows (IsAmongFirst order n)
+-- rows on the way that fit, of which those at the first so many places of an order are settled
+pub record IsSettledTo (p : Problem) (rows now : List Row) (order : List ℕ) (n : ℕ) : Type 0 where
+  pub fit : AreFit p (rows_of now)
+  pub settling : AreSettling p rows now (IsAmongFirst order n)

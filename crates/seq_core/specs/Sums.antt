@@ -1,6 +1,6 @@
 -- Sums over a group's tests; those of ups a word may be too small for.
-use Rattle.std.specs.Prelude.{◌≡◌, ℕ, min, List, Option, Some, None}
-use Rattle.seq_theory.specs.Problem.{Problem, IsIn, splitting}
+use Rattle.std.specs.Prelude.{ℕ, min, List, Option, Some, None}
+use Rattle.seq_theory.specs.Problem.{Problem}
 use Rattle.seq_theory.specs.Bound.{step_sum}
 use Rattle.seq_theory.specs.Graph.{step_value}
 use Rattle.seq_theory.specs.Rows.{no_value, known_low, known_up}
@@ -14,12 +14,6 @@ low_sum p rows group = step_sum p (known_low p (rows_of rows)) group
 -- and what they count for an up, where both have one
 abbrev pub up_sum : Problem → List Row → List ℕ → ℕ → Option ℕ
 up_sum p rows group = step_value p (known_up p (rows_of rows)) group
-
--- some test that splits the group has this sum
-pub record IsSumOf (p : Problem) (group : List ℕ) (sums : ℕ → ℕ) (n : ℕ) : Type 0 where
-  pub test : ℕ
-  pub splits : IsIn test (splitting p group)
-  pub is : n ≡ sums test
 
 -- the lesser of an earlier number, if there is one, and a new one
 abbrev pub lesser : Option ℕ → ℕ → ℕ

@@ -5,9 +5,8 @@ ghost use Rattle.std.specs.Prelude.{◌≡◌, ◌++◌, ◌∷◌, [], ◌<◌,
 ghost use Rattle.seq_inst.specs.Members.{members};
 ghost use Rattle.seq_core.specs.Mapping.{place_of};
 
-use crate::words::know_words;
 use indexmap::IndexMap;
-use seq_inst::Group;
+use seq_inst::{Group, group_stands};
 use std::alloc::{AllocError, Global};
 use std::marker::Model;
 
@@ -55,7 +54,7 @@ impl Places {
     pub fn find(&self, group: &Group) -> Option<u32>
         ensures { result ≡ place_of self.now.placed (members group.now) }
     {
-        know_words(group);
+        group_stands(group);
         self.places.get(&group.0).copied()
     }
 
@@ -65,7 +64,7 @@ impl Places {
         requires room { length self.old.placed < self.old.room }
         ensures { self.new ≡ record { room = self.old.room; placed = self.old.placed ++ record { group = members group.now; place = place } ∷ [] } }
     {
-        know_words(group);
+        group_stands(group);
         let _ = self.places.insert(group.0, place);
     }
 }

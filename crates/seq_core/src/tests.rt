@@ -1,12 +1,11 @@
 //! The events of the core on worked rows, and the lows and values of its rows.
 ghost use Rattle.std.specs.Prelude.{◌≡◌, IfOk};
 ghost use Rattle.seq_inst.specs.Instances.{problem_of};
-ghost use Rattle.seq_core.specs.Numbered.{AreNumbers};
 ghost use Rattle.seq_core.specs.Examples.{two_faults as two_faults_problem, star as star_problem};
 
-use crate::{Core, Event, Illegal, Kept, Numbers, Places, Split, lows, settle, vals};
+use crate::{Core, Event, Illegal, Places, lows, vals};
 use seq_huff::Scratch;
-use seq_inst::{Answer, Group, Instance, Strategy, part, root};
+use seq_inst::{Answer, Group, Instance, part, root};
 use std::alloc::{AllocError, Global};
 use std::test::Fail;
 
@@ -39,22 +38,6 @@ fn star(alloc: Global) -> Result<Instance, AllocError>
     Ok(Instance::new(weights, costs, passes))
 }
 
-/// No numbers yet. That they are the instance's is one clause here.
-fn no_numbers(alloc: Global, inst: &Instance) -> Result<Numbers, AllocError>
-    ensures { IfOk result (AreNumbers (problem_of inst.now)) }
-{
-    Numbers::new(alloc, inst)
-}
-
-/// Room for one more group. That the numbers stay the instance's is one clause here.
-fn more_room(inst: &Instance, numbers: &mut Numbers) -> Result<(), AllocError>
-    requires { AreNumbers (problem_of inst.now) numbers.old }
-    ensures { AreNumbers (problem_of inst.now) numbers.new }
-{
-    let _ = inst;
-    numbers.reserve(1)
-}
-
 #[test]
 fn groups_are_found_at_their_places(rt: HostRuntime) -> Result<(), Fail> {
     let mut places = Places::new(rt.alloc(), 3)?;
@@ -70,59 +53,6 @@ fn groups_are_found_at_their_places(rt: HostRuntime) -> Result<(), Fail> {
     assert_eq!(rt; places.find(&first), Some(7));
     assert_eq!(rt; places.find(&second), Some(0));
     assert_eq!(rt; places.find(&third), Some(9));
-    Ok(())
-}
-
-#[test]
-fn what_is_kept_of_two_faults(rt: HostRuntime) -> Result<(), Fail> {
-    let alloc = rt.alloc();
-    let mut scratch = Scratch::new();
-    let inst = two_faults(alloc)?;
-    let all = root(&inst);
-    let passing = part(&inst, &all, 0, Answer::Pass);
-    let mut numbers = no_numbers(alloc, &inst)?;
-    let mut kept = Kept::of(
-        &mut scratch,
-        &mut numbers,
-        &inst,
-        &all,
-        Vec::new(alloc),
-        Vec::new(alloc),
-    )?;
-    assert_eq!(rt; (kept.number, kept.weight), (0, 10));
-    assert_eq!(rt; (kept.bound, kept.greedy), (18, 27));
-    assert_eq!(rt; kept.splits.len(), 0);
-    assert!(rt; !kept.waiting.is_empty());
-    kept.evaluate(&mut scratch, &mut numbers, &inst, &all, 0)?;
-    let first = Split {
-        test: 0,
-        pass: 1,
-        fail: 2,
-    };
-    assert_eq!(rt; kept.splits.as_slice(), [first].as_slice());
-    assert_eq!(rt; numbers.len(), 3);
-    assert!(rt; numbers.group_at(1) == passing);
-    assert_eq!(rt; numbers.bound_at(1), 7);
-    Ok(())
-}
-
-#[test]
-fn numbers_while_there_is_room(rt: HostRuntime) -> Result<(), Fail> {
-    let alloc = rt.alloc();
-    let mut scratch = Scratch::new();
-    let inst = two_faults(alloc)?;
-    let all = root(&inst);
-    let mut numbers = no_numbers(alloc, &inst)?;
-    let without = numbers.number_within(&mut scratch, &inst, &all);
-    assert_eq!(rt; without, None);
-    more_room(&inst, &mut numbers)?;
-    let with = numbers.number_within(&mut scratch, &inst, &all);
-    assert_eq!(rt; with, Some(0));
-    assert_eq!(rt; numbers.find(&all), Some(0));
-    let cost = numbers.greedy_of(&mut scratch, &inst, &all);
-    assert_eq!(rt; cost, 27);
-    let tree = numbers.greedy_tree(alloc, &mut scratch, &inst, &all)?;
-    assert!(rt; matches!(tree, Strategy::Ask { test: 0, .. }));
     Ok(())
 }
 
@@ -176,7 +106,6 @@ fn two_rows_of_a_star(rt: HostRuntime) -> Result<(), Fail> {
     let inst = star(alloc)?;
     let all = root(&inst);
     let passing = part(&inst, &all, 0, Answer::Pass);
-    let numbers = no_numbers(alloc, &inst)?;
     let mut core = Core::new(alloc, &inst, 2)?;
     let first = core.step(&mut scratch, &inst, Event::Enter { group: all });
     assert_eq!(rt; first, Ok(()));
@@ -202,9 +131,9 @@ fn two_rows_of_a_star(rt: HostRuntime) -> Result<(), Fail> {
     assert_eq!(rt; rows.len(), 2);
     assert_eq!(rt; (rows[0].group, rows[0].low, rows[0].up), (all, 13, 14));
     assert_eq!(rt; (rows[1].group, rows[1].low, rows[1].up), (passing, 9, 9));
-    let settled = settle(alloc, &mut scratch, &inst, &numbers, rows)?;
-    assert_eq!(rt; settled.len(), 2);
-    assert_eq!(rt; (settled[0].low, settled[0].up), (13, 14));
-    assert_eq!(rt; (settled[1].low, settled[1].up), (9, 9));
+    let lows = lows(alloc, &mut scratch, &inst, rows)?;
+    assert_eq!(rt; lows.as_slice(), [13, 9].as_slice());
+    let vals = vals(alloc, &mut scratch, &inst, rows)?;
+    assert_eq!(rt; vals.as_slice(), [14, 9].as_slice());
     Ok(())
 }

@@ -15,7 +15,6 @@ use Rattle.seq_theory.proofs.ValLaws.{val-end, val-entered, least-le-val}
 use Rattle.seq_theory.proofs.LowLaws.{low-le-least}
 use Rattle.seq_theory.proofs.StratLaws.{strat-holds}
 use Rattle.seq_theory.proofs.LeastLaws.{least}
-use Rattle.seq_huff.proofs.LeastBounds.{weighed}
 use Rattle.seq_inst.specs.declared.group.Group.{Group}
 use Rattle.seq_inst.specs.declared.outcome.Row.{Row}
 use Rattle.seq_inst.specs.declared.outcome.Verdict.TheVariants.{Optimal, Bounded}
@@ -25,8 +24,8 @@ use Rattle.seq_inst.specs.declared.instance.Instance.{Instance}
 use Rattle.seq_inst.specs.Instances.{problem_of}
 use Rattle.seq_inst.specs.Trees.{tree_of}
 use Rattle.seq_inst.specs.Shapes.{height, leaf_count, AsksSplitting}
-use Rattle.seq_inst.proofs.MembersLaws.{length-count_up}
-use Rattle.seq_inst.proofs.ShapeLaws.{leaves-le, height-lt-leaves}
+use Rattle.seq_theory.proofs.BelowLaws.{length-count_up}
+use Rattle.seq_theory.proofs.ShapeLaws.{leaves-le, height-lt-leaves}
 use Rattle.seq_finish.proofs.StratLaws.{the-value, strat-splitting}
 use Rattle.seq_core.specs.RowsOf.{row_of as row_from, rows_of as rows_from}
 use Rattle.seq_core.specs.Settled.{groups_in, value_or, AreGroups, settled_row, settled_rows}
@@ -250,6 +249,6 @@ outcome-shape inst entered tree root is =
 pub outcome-proper : (inst : Instance) (entered : List (List ℕ)) (n v : ℕ) → n ≡ low (problem_of inst) entered (all_classes (problem_of inst)) → val (problem_of inst) entered (all_classes (problem_of inst)) ≡ Some v → n ≤ v
 outcome-proper inst entered n v is e =
     let p = problem_of inst in
-    let a = low-le-least p entered (all_classes p) (weighed inst) inst.valid.told (within-all p) in
+    let a = low-le-least p entered (all_classes p) inst.stands.weighed inst.valid.told (within-all p) in
     let b = least-le-val p entered (all_classes p) v inst.valid.told (within-all p) e in
     omega arith

@@ -14,9 +14,8 @@ use Rattle.seq_inst.specs.declared.group.Group.{Group}
 use Rattle.seq_inst.specs.declared.instance.Instance.{Instance}
 use Rattle.seq_inst.specs.Members.{members}
 use Rattle.seq_inst.specs.Instances.{problem_of}
-use Rattle.seq_inst.proofs.WithinLaws.{light}
-use Rattle.seq_huff.proofs.BoundFits.{product-le}
-use Rattle.seq_graph.specs.declared.kept.Split.{Split}
+use Rattle.seq_theory.proofs.BelowLaws.{product-le}
+use Rattle.seq_graph.specs.declared.node.Split.{Split}
 use Rattle.seq_graph.specs.declared.choice.Chosen.{Chosen}
 use Rattle.seq_graph.specs.Choice.{lesser_choice, lesser_value, IsBefore, IsLeastOf, IsChoice}
 
@@ -138,5 +137,5 @@ least_value-more f g n t xs more is e v at = ap (lesser_value n) at ∙ go (f t)
 pub sum-fits : (inst : Instance) (g : Group) (cost weight test : ℕ) → IsWithin (problem_of inst) (members g) → test < (problem_of inst).tests → cost ≡ (problem_of inst).cost test → weight ≡ weight_of (problem_of inst) (members g) → cost * weight ≤ 4097000000000000
 sum-fits inst g cost weight test within there c w =
     let most = (inst.valid.costs test there).1 in
-    let l = light inst g within in
+    let l = inst.stands.light g within in
     product-le cost weight 1000000 4097000000 (omega arith) (omega arith)

@@ -17,7 +17,7 @@ use Rattle.seq_inst.specs.declared.instance.Instance.{Instance}
 use Rattle.seq_inst.specs.declared.outcome.Row.{Row}
 use Rattle.seq_inst.specs.Members.{members}
 use Rattle.seq_inst.specs.Instances.{problem_of}
-use Rattle.seq_graph.specs.declared.kept.Kept.{Kept}
+use Rattle.seq_graph.specs.declared.node.Node.{Node}
 use Rattle.seq_graph.specs.KeptOf.{IsKeptOf, AreTestsOf, KeepsTests}
 use Rattle.seq_graph.specs.Numbered.{Numbered, HasNumber, AreNumbers, KeepsNumbers}
 use Rattle.seq_core.specs.RowsOf.{row_of as row_from, rows_of as rows_from, place_in}
@@ -31,7 +31,7 @@ use Rattle.seq_graph.proofs.NumberLaws.{map-changed, map-later, number-once}
 use Rattle.seq_graph.proofs.CountLaws.{kept-read, count-at, countable, counted-is}
 use Rattle.seq_graph.proofs.EventLaws.{IsRefreshed, entered-known, length-Narrows, group-Narrows, up-Narrows}
 use Rattle.seq_theory.proofs.RowLaws.{same_group-true, same_group-refl}
-use Rattle.seq_graph.specs.declared.kept.Split.{Split}
+use Rattle.seq_graph.specs.declared.node.Split.{Split}
 use Rattle.seq_graph.specs.Sums.{counted_sum, IsCountable}
 use Rattle.seq_graph.proofs.CoverLaws.{tests-rise, tests-keep, tests-left}
 use Rattle.seq_graph.proofs.SplitLaws.{split-at}
@@ -63,7 +63,7 @@ count-none p rows g is = elim (cases_Bool (is_end p g)) [
 -- ---- what is kept ----
 
 -- what is kept of a row stays right while lows rise and its up falls
-kept-narrows : (p : Problem) (v : Numbered) (rows now : List Row) (r s : Row) (k : Kept) → s.group ≡ r.group → ((h : List ℕ) → known_low p (rows_from rows) h ≤ known_low p (rows_from now) h) → s.up ≤ r.up → IsKeptBy p v rows r k → IsKeptBy p v now s k
+kept-narrows : (p : Problem) (v : Numbered) (rows now : List Row) (r s : Row) (k : Node) → s.group ≡ r.group → ((h : List ℕ) → known_low p (rows_from rows) h ≤ known_low p (rows_from now) h) → s.up ≤ r.up → IsKeptBy p v rows r k → IsKeptBy p v now s k
 kept-narrows p v rows now r s k e rises falls kept = subst (λ (g : Group). IsKeptBy p v now (record { group = g; low = s.low; up = s.up }) k) (sym e) (record {
   number = kept.number;
   weight = kept.weight;
@@ -74,7 +74,7 @@ kept-narrows p v rows now r s k e rises falls kept = subst (λ (g : Group). IsKe
 })
 
 -- and while more groups get numbers
-kept-keeps : (p : Problem) (old new : Numbered) (rows : List Row) (r : Row) (k : Kept) → KeepsNumbers old new → IsKeptBy p old rows r k → IsKeptBy p new rows r k
+kept-keeps : (p : Problem) (old new : Numbered) (rows : List Row) (r : Row) (k : Node) → KeepsNumbers old new → IsKeptBy p old rows r k → IsKeptBy p new rows r k
 kept-keeps p old new rows r k keeps h = record {
   number = keeps (members r.group) k.number h.number;
   weight = h.weight;
@@ -84,7 +84,7 @@ kept-keeps p old new rows r k keeps h = record {
 }
 
 -- at first those are left out that greedy is below, and this is a cap of the new row. Lows are no less than bounds
-kept-whole : (p : Problem) (v : Numbered) (rows : List Row) (r : Row) (k : Kept) → AreRows p rows → r.up ≤ greedy_cost p (members r.group) → IsKeptOf p v (members r.group) k → IsKeptBy p v rows r k
+kept-whole : (p : Problem) (v : Numbered) (rows : List Row) (r : Row) (k : Node) → AreRows p rows → r.up ≤ greedy_cost p (members r.group) → IsKeptOf p v (members r.group) k → IsKeptBy p v rows r k
 kept-whole p v rows r k known falls h = record {
   number = h.number;
   weight = h.weight;
@@ -94,9 +94,9 @@ kept-whole p v rows r k known falls h = record {
       (λ t. let a = bound-le-known_low p rows known (pass_part p t (members r.group)) in let b = bound-le-known_low p rows known (fail_part p t (members r.group)) in omega arith) falls;
 }
 
-kept-more : (P : Row → Kept → Type 0) (rows : List Row) (kept : List Kept) (r : Row) (k : Kept) → length kept ≡ length rows
-    → ((q : ℕ) (x : Kept) → slice_get kept q ≡ Some x → P (row_at rows q) x) → P r k
-    → (q : ℕ) (x : Kept) → slice_get (kept ++ k ∷ []) q ≡ Some x → P (row_at (rows ++ r ∷ []) q) x
+kept-more : (P : Row → Node → Type 0) (rows : List Row) (kept : List Node) (r : Row) (k : Node) → length kept ≡ length rows
+    → ((q : ℕ) (x : Node) → slice_get kept q ≡ Some x → P (row_at rows q) x) → P r k
+    → (q : ℕ) (x : Node) → slice_get (kept ++ k ∷ []) q ≡ Some x → P (row_at (rows ++ r ∷ []) q) x
 kept-more P [] [] r k l all here zero x e = let same : k ≡ x = cc in subst (P r) same here
 kept-more P [] [] r k l all here (suc q) x e = absurd (let bad : ⊥ = cc in bad)
 kept-more P [] (y ∷ kept) r k l all here q x e = absurd (let bad : ⊥ = omega arith in bad)
@@ -112,8 +112,8 @@ get-set (z ∷ xs) (suc k) x zero y e = inr e
 get-set (z ∷ xs) (suc k) x (suc q) y e = elim (get-set xs k x q y e) [ inl s ↦ inl (ap suc s.0, s.1) | inr o ↦ inr o ]
 
 -- one that is kept gives way to another that is right too
-replaced-kept : (p : Problem) (v : Numbered) (rows : List Row) (kept : List Kept) (place : ℕ) (other : Kept) → length kept ≡ length rows
-    → ((q : ℕ) (x : Kept) → slice_get kept q ≡ Some x → IsKeptBy p v rows (row_at rows q) x) → IsKeptBy p v rows (row_at rows place) other → AreKept p v rows (set kept place other)
+replaced-kept : (p : Problem) (v : Numbered) (rows : List Row) (kept : List Node) (place : ℕ) (other : Node) → length kept ≡ length rows
+    → ((q : ℕ) (x : Node) → slice_get kept q ≡ Some x → IsKeptBy p v rows (row_at rows q) x) → IsKeptBy p v rows (row_at rows place) other → AreKept p v rows (set kept place other)
 replaced-kept p v rows kept place other l all here = record {
   as_many = length-set kept place other ∙ l;
   each = λ q x e. elim (get-set kept place other q x e) [
@@ -132,7 +132,7 @@ low-cases p rows now g others here h = elim (cases_Bool (same_group h g)) [
 
 -- ---- a row is narrowed ----
 
-module _ (inst : Instance) (v : Numbered) (rows : List Row) (kept : List Kept) (counts : List Count) (known : AreKnown (problem_of inst) v rows kept counts) (place : ℕ) (lt : place < length rows) (k : Kept)
+module _ (inst : Instance) (v : Numbered) (rows : List Row) (kept : List Node) (counts : List Count) (known : AreKnown (problem_of inst) v rows kept counts) (place : ℕ) (lt : place < length rows) (k : Node)
     (read : k ≡ get_or kept place k) (low up : ℕ) (narrowed : IsRefreshed (problem_of inst) rows (capped_at (raised_at rows place low) place up) place low up) where
   now : List Row
   now = capped_at (raised_at rows place low) place up
@@ -219,7 +219,7 @@ some-there [] i lt = absurd (let bad : ⊥ = omega arith in bad)
 some-there (x ∷ xs) zero lt = (x, refl)
 some-there (x ∷ xs) (suc i) lt = some-there xs i (omega arith)
 
-module _ (inst : Instance) (old new : Numbered) (rows : List Row) (kept : List Kept) (counts : List Count) (known : AreKnown (problem_of inst) old rows kept counts) (numbers : AreNumbers (problem_of inst) new) (keeps : KeepsNumbers old new) where
+module _ (inst : Instance) (old new : Numbered) (rows : List Row) (kept : List Node) (counts : List Count) (known : AreKnown (problem_of inst) old rows kept counts) (numbers : AreNumbers (problem_of inst) new) (keeps : KeepsNumbers old new) where
   -- a group with a later number has no row
   later-none : (h : List ℕ) (n : ℕ) → length old.groups ≤ n → HasNumber new h n → row_of (rows_from rows) h ≡ None
   later-none h n le has = go (place_in (rows_from rows) h) refl
@@ -247,7 +247,7 @@ module _ (inst : Instance) (old new : Numbered) (rows : List Row) (kept : List K
       e ∙ ap (λ n. counts ++ map (new_count p) (drop n new.groups)) l ∙ ap (λ c. c ++ map (new_count p) (drop (length old.groups) new.groups)) known.counts_are
       ∙ map-later f (new_count p) old.groups new.groups keeps (λ h n le has. count-none p rows h (later-none h n le has))
 
-  pub added-known : (g : Group) (k : Kept) (more : List Count) (place : ℕ) → IsReal (problem_of inst) (members g) → is_entered (groups_of (rows_from rows)) (members g) ≡ false
+  pub added-known : (g : Group) (k : Node) (more : List Count) (place : ℕ) → IsReal (problem_of inst) (members g) → is_entered (groups_of (rows_from rows)) (members g) ≡ false
       → IsKeptOf (problem_of inst) new (members g) k → more ≡ counts ++ map (new_count (problem_of inst)) (drop (length counts) new.groups) → place ≡ length rows
       → AreKnown (problem_of inst) new (rows ++ record { group = g; low = 0; up = k.greedy } ∷ []) (kept ++ k ∷ []) (set more k.number (record (count_at more k.number) { up = k.greedy; place = Some place }))
   added-known g k more place real absent of grown place_is =
@@ -281,7 +281,7 @@ module _ (inst : Instance) (old new : Numbered) (rows : List Row) (kept : List K
       }
 
   -- a test of a group is evaluated
-  pub evaluated-known : (place : ℕ) (k other : Kept) (more : List Count) → place < length rows → k ≡ get_or kept place k → other.number ≡ k.number → other.weight ≡ k.weight → other.bound ≡ k.bound → other.greedy ≡ k.greedy
+  pub evaluated-known : (place : ℕ) (k other : Node) (more : List Count) → place < length rows → k ≡ get_or kept place k → other.number ≡ k.number → other.weight ≡ k.weight → other.bound ≡ k.bound → other.greedy ≡ k.greedy
       → KeepsTests (problem_of inst) old new (members (group_at rows place)) k other → more ≡ counts ++ map (new_count (problem_of inst)) (drop (length counts) new.groups)
       → AreKnown (problem_of inst) new rows (set kept place other) more
   evaluated-known place k other more lt read en ew eb eg tests grown =
@@ -303,7 +303,7 @@ module _ (inst : Instance) (old new : Numbered) (rows : List Row) (kept : List K
 
 -- ---- tests are left out ----
 
-module _ (inst : Instance) (v : Numbered) (rows : List Row) (kept : List Kept) (counts : List Count) (known : AreKnown (problem_of inst) v rows kept counts) (place : ℕ) (lt : place < length rows) (k : Kept)
+module _ (inst : Instance) (v : Numbered) (rows : List Row) (kept : List Node) (counts : List Count) (known : AreKnown (problem_of inst) v rows kept counts) (place : ℕ) (lt : place < length rows) (k : Node)
     (read : k ≡ get_or kept place k) where
   of-row : IsKeptBy (problem_of inst) v rows (row_at rows place) k
   of-row = kept-read (problem_of inst) v rows kept counts known place k lt read
@@ -313,7 +313,7 @@ module _ (inst : Instance) (v : Numbered) (rows : List Row) (kept : List Kept) (
       let at = split-at (problem_of inst) v rows (row_at rows place) k k.splits.items of-row refl i d h in
       countable inst v rows kept counts known place lt (get_or k.splits.items i d) k at.parts at.there read
 
-  replaced : (other : Kept) → IsKeptBy (problem_of inst) v rows (row_at rows place) other → AreKnown (problem_of inst) v rows (set kept place other) counts
+  replaced : (other : Node) → IsKeptBy (problem_of inst) v rows (row_at rows place) other → AreKnown (problem_of inst) v rows (set kept place other) counts
   replaced other here = record {
     rows_are = known.rows_are;
     numbers_are = known.numbers_are;
@@ -321,27 +321,27 @@ module _ (inst : Instance) (v : Numbered) (rows : List Row) (kept : List Kept) (
     counts_are = known.counts_are;
   }
 
-  pub thinned-known : (thin : Kept) (up : ℕ) → up ≡ (row_at rows place).up → thin.number ≡ k.number → thin.weight ≡ k.weight → thin.bound ≡ k.bound → thin.greedy ≡ k.greedy
-      → thin.splits.items ≡ filter (λ s. nat_le (counted_sum inst.costs.items k.weight counts s) up) k.splits.items → thin.waiting.items ≡ filter (λ w. nat_le w.least up) k.waiting.items → AreKnown (problem_of inst) v rows (set kept place thin) counts
-  thinned-known thin up up_is en ew eb eg splits_are waiting_are =
+  pub thinned-known : (prune : Node) (up : ℕ) → up ≡ (row_at rows place).up → prune.number ≡ k.number → prune.weight ≡ k.weight → prune.bound ≡ k.bound → prune.greedy ≡ k.greedy
+      → prune.splits.items ≡ filter (λ s. nat_le (counted_sum inst.costs.items k.weight counts s) up) k.splits.items → prune.waiting.items ≡ filter (λ w. nat_le w.least up) k.waiting.items → AreKnown (problem_of inst) v rows (set kept place prune) counts
+  thinned-known prune up up_is en ew eb eg splits_are waiting_are =
       let p = problem_of inst in
       let r = row_at rows place in
       let g = members r.group in
       let f = step_sum p (known_low p (rows_from rows)) g in
       let stays = λ (s : Split). nat_le (counted_sum inst.costs.items k.weight counts s) up in
-      replaced thin (record {
+      replaced prune (record {
         number = subst (HasNumber v g) (sym en) of-row.number;
         weight = ew ∙ of-row.weight;
         bound_is = eb ∙ of-row.bound_is;
         greedy = eg ∙ of-row.greedy;
-        tests = subst (λ n. AreTestsOf p v g f n thin.splits.items thin.waiting.items) up_is
-            (tests-left p v g f up k.splits.items thin.splits.items k.waiting.items thin.waiting.items stays (subst (λ n. AreTestsOf p v g f n k.splits.items k.waiting.items) (sym up_is) of-row.tests) (λ i d h.
+        tests = subst (λ n. AreTestsOf p v g f n prune.splits.items prune.waiting.items) up_is
+            (tests-left p v g f up k.splits.items prune.splits.items k.waiting.items prune.waiting.items stays (subst (λ n. AreTestsOf p v g f n k.splits.items k.waiting.items) (sym up_is) of-row.tests) (λ i d h.
             let at = split-at p v rows r k k.splits.items of-row refl i d h in
             ap (λ n. nat_le n up) (counted-is inst v rows kept counts known place lt (get_or k.splits.items i d) k at.parts read)) splits_are waiting_are);
       })
 
   -- the same tests in lists of less room
-  pub fitted-known : (fit : Kept) → fit.number ≡ k.number → fit.weight ≡ k.weight → fit.bound ≡ k.bound → fit.greedy ≡ k.greedy → fit.splits.items ≡ k.splits.items → fit.waiting.items ≡ k.waiting.items → AreKnown (problem_of inst) v rows (set kept place fit) counts
+  pub fitted-known : (fit : Node) → fit.number ≡ k.number → fit.weight ≡ k.weight → fit.bound ≡ k.bound → fit.greedy ≡ k.greedy → fit.splits.items ≡ k.splits.items → fit.waiting.items ≡ k.waiting.items → AreKnown (problem_of inst) v rows (set kept place fit) counts
   fitted-known fit en ew eb eg splits_are waiting_are =
       let p = problem_of inst in
       let r = row_at rows place in

@@ -15,8 +15,8 @@ use Rattle.seq_inst.specs.declared.instance.Instance.{Instance}
 use Rattle.seq_inst.specs.declared.outcome.Row.{Row}
 use Rattle.seq_inst.specs.Members.{members}
 use Rattle.seq_inst.specs.Instances.{problem_of}
-use Rattle.seq_graph.specs.declared.kept.Kept.{Kept}
-use Rattle.seq_graph.specs.declared.kept.Split.{Split}
+use Rattle.seq_graph.specs.declared.node.Node.{Node}
+use Rattle.seq_graph.specs.declared.node.Split.{Split}
 use Rattle.seq_graph.specs.KeptOf.{HasParts}
 use Rattle.seq_graph.specs.Numbered.{Numbered, HasNumber}
 use Rattle.seq_core.specs.RowsOf.{rows_of as rows_from}
@@ -34,7 +34,7 @@ same-count a b e = cc
 pub count-at : (f : List ℕ → Count) (groups : List (List ℕ)) (n : ℕ) (g : List ℕ) → slice_get groups n ≡ Some g → count_at (map f groups) n ≡ f g
 count-at f groups n g has = get_or_from_slice_get (map f groups) n (f g) no_count (slice_get-map f groups n ∙ ap (option_map f) has)
 
-module _ (p : Problem) (v : Numbered) (rows : List Row) (kept : List Kept) (counts : List Count) (known : AreKnown p v rows kept counts) where
+module _ (p : Problem) (v : Numbered) (rows : List Row) (kept : List Node) (counts : List Count) (known : AreKnown p v rows kept counts) where
   pub counts-long : length counts ≡ length v.groups
   counts-long = ap length known.counts_are ∙ length-map v.groups (count_of p rows)
 
@@ -46,12 +46,12 @@ module _ (p : Problem) (v : Numbered) (rows : List Row) (kept : List Kept) (coun
       let e = slice_get_read counts (length counts) n x refl (omega arith) read in
       same-count x (count_of p rows g) (sym e ∙ ap (λ c. slice_get c n) known.counts_are ∙ slice_get-map (count_of p rows) v.groups n ∙ ap (option_map (count_of p rows)) has)
 
-  pub kept-read : (place : ℕ) (k : Kept) → place < length rows → k ≡ get_or kept place k → IsKeptBy p v rows (row_at rows place) k
+  pub kept-read : (place : ℕ) (k : Node) → place < length rows → k ≡ get_or kept place k → IsKeptBy p v rows (row_at rows place) k
   kept-read place k lt read =
       let l = known.kept_are.as_many in
       known.kept_are.each place k (slice_get_read kept (length kept) place k refl (omega arith) read)
 
-module _ (p : Problem) (v : Numbered) (rows : List Row) (kept : List Kept) (counts : List Count) (known : AreKnown p v rows kept counts) where
+module _ (p : Problem) (v : Numbered) (rows : List Row) (kept : List Node) (counts : List Count) (known : AreKnown p v rows kept counts) where
   value-given : (o : Option ℕ) (n : ℕ) → n ≡ value_or o → n ≢ no_value → o ≡ Some n
   value-given None n e ne = absurd (ne e)
   value-given (Some u) n e ne = ap (λ m. Some m) (sym e)
@@ -97,7 +97,7 @@ up-small p rows known g u e = elim (cases_Bool (is_end p g)) [
     small-row (x ∷ rest) all r (inl s) = subst (λ (y : PlainRow). (y.up ≡ no_value) ⊎ (y.up ≤ greatest_cost)) s (all 0 no_row (omega arith))
     small-row (x ∷ rest) all r (inr i) = small-row rest (λ k d lt. all (suc k) d (omega arith)) r i
 
-module _ (p : Problem) (v : Numbered) (rows : List Row) (kept : List Kept) (counts : List Count) (known : AreKnown p v rows kept counts) where
+module _ (p : Problem) (v : Numbered) (rows : List Row) (kept : List Node) (counts : List Count) (known : AreKnown p v rows kept counts) where
   pub up-none : (g : List ℕ) (n : ℕ) (a : Count) → HasNumber v g n → a ≡ get_or counts n a → a.up ≡ no_value → known_up p (rows_from rows) g ≡ None
   up-none g n a has read e = go (known_up p (rows_from rows) g) refl
     where
@@ -113,7 +113,7 @@ module _ (p : Problem) (v : Numbered) (rows : List Row) (kept : List Kept) (coun
           bad
           )
 
-module _ (inst : Instance) (v : Numbered) (rows : List Row) (kept : List Kept) (counts : List Count) (known : AreKnown (problem_of inst) v rows kept counts) (place : ℕ) (lt : place < length rows) where
+module _ (inst : Instance) (v : Numbered) (rows : List Row) (kept : List Node) (counts : List Count) (known : AreKnown (problem_of inst) v rows kept counts) (place : ℕ) (lt : place < length rows) where
   group-light : IsLight (problem_of inst) (members (group_at rows place))
   group-light = light-group inst (group_at rows place) (row-within (problem_of inst) rows known.rows_are place lt)
 
@@ -122,7 +122,7 @@ module _ (inst : Instance) (v : Numbered) (rows : List Row) (kept : List Kept) (
   count-of : (g : List ℕ) (n : ℕ) → HasNumber v g n → count_at counts n ≡ count_of (problem_of inst) rows g
   count-of g n has = ap (λ c. count_at c n) known.counts_are ∙ count-at (count_of (problem_of inst) rows) v.groups n g has
 
-  pub countable : (s : Split) (k : Kept) → HasParts (problem_of inst) v (members (group_at rows place)) s → s.test < (problem_of inst).tests → k ≡ get_or kept place k → IsCountable inst.costs.items k.weight counts s
+  pub countable : (s : Split) (k : Node) → HasParts (problem_of inst) v (members (group_at rows place)) s → s.test < (problem_of inst).tests → k ≡ get_or kept place k → IsCountable inst.costs.items k.weight counts s
   countable s k parts there kr =
       let p = problem_of inst in
       let g = members (group_at rows place) in
@@ -143,7 +143,7 @@ module _ (inst : Instance) (v : Numbered) (rows : List Row) (kept : List Kept) (
         failing = omega arith;
       }
 
-  pub counted-is : (s : Split) (k : Kept) → HasParts (problem_of inst) v (members (group_at rows place)) s → k ≡ get_or kept place k
+  pub counted-is : (s : Split) (k : Node) → HasParts (problem_of inst) v (members (group_at rows place)) s → k ≡ get_or kept place k
       → counted_sum inst.costs.items k.weight counts s ≡ step_sum (problem_of inst) (known_low (problem_of inst) (rows_from rows)) (members (group_at rows place)) s.test
   counted-is s k parts kr =
       let p = problem_of inst in
@@ -181,7 +181,7 @@ module _ (inst : Instance) (v : Numbered) (rows : List Row) (kept : List Kept) (
     pub failing : fail ≤ greatest_cost
     pub sum : Some (cost * weight + (pass + fail)) ≡ step_value (problem_of inst) (known_up (problem_of inst) (rows_from rows)) (members (group_at rows place)) s.test
 
-  pub up-sum : (s : Split) (cost : ℕ) (k : Kept) (a b : Count) → HasParts (problem_of inst) v (members (group_at rows place)) s → s.test < (problem_of inst).tests → cost ≡ (problem_of inst).cost s.test
+  pub up-sum : (s : Split) (cost : ℕ) (k : Node) (a b : Count) → HasParts (problem_of inst) v (members (group_at rows place)) s → s.test < (problem_of inst).tests → cost ≡ (problem_of inst).cost s.test
       → k ≡ get_or kept place k → a ≡ get_or counts s.pass a → b ≡ get_or counts s.fail b → a.up ≢ no_value → b.up ≢ no_value → UpSum s cost k.weight a.up b.up
   up-sum s cost k a b parts there cost_is kr ar br na nb =
       let p = problem_of inst in

@@ -9,8 +9,8 @@ use Rattle.seq_theory.specs.Problem.{Problem, IsIn, count_up, splits, splitting}
 use Rattle.seq_theory.specs.Greedy.{first_least}
 use Rattle.seq_theory.proofs.GroupLaws.{IsIn-filter, filter-IsIn}
 use Rattle.seq_theory.proofs.LeastLaws.{least_of-le, count_up-IsIn}
-use Rattle.seq_graph.specs.declared.kept.Split.{Split}
-use Rattle.seq_graph.specs.declared.kept.Waiting.{Waiting}
+use Rattle.seq_graph.specs.declared.node.Split.{Split}
+use Rattle.seq_graph.specs.declared.node.Waiting.{Waiting}
 use Rattle.seq_graph.specs.KeptOf.{HasParts, Waits, AreTestsOf}
 use Rattle.seq_graph.specs.Numbered.{Numbered, KeepsNumbers}
 use Rattle.seq_graph.proofs.KeptLaws.{all-waits, parts-kept}

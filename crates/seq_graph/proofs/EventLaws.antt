@@ -13,7 +13,6 @@ use Rattle.seq_theory.specs.Rows.{Row as PlainRow, no_value, groups_of, IsSound,
 use Rattle.seq_theory.proofs.RowLaws.{events-sound, wanted-within}
 use Rattle.seq_theory.proofs.PartsRecursion.{filter_map-agree}
 use Rattle.seq_huff.specs.Bounds.{greatest_cost}
-use Rattle.seq_huff.proofs.LeastBounds.{weighed}
 use Rattle.seq_inst.specs.declared.group.Group.{Group}
 use Rattle.seq_inst.specs.declared.instance.Instance.{Instance}
 use Rattle.seq_inst.specs.declared.outcome.Row.{Row}
@@ -179,7 +178,7 @@ module _ (inst : Instance) (rows : List Row) (k low up : ℕ) (known : AreRows (
         narrows = Narrows-trans rows (raised_at rows k low) (capped_at (raised_at rows k low) k up) (Narrows-set rows k _ lt refl (omega arith) (omega arith)) (Narrows-set (raised_at rows k low) k _ lt2 refl (omega arith) (omega arith));
         closes = λ le.
             let lt3 : k < length (capped_at (raised_at rows k low) k up) = (let l = capped-long in omega arith) in
-            let b = row-bounds (problem_of inst) (capped_at (raised_at rows k low) k up) capped-known (weighed inst) inst.valid.told k lt3 in
+            let b = row-bounds (problem_of inst) (capped_at (raised_at rows k low) k up) capped-known inst.stands.weighed inst.valid.told k lt3 in
             let between : (row_at (capped_at (raised_at rows k low) k up) k).low ≤ (row_at (capped_at (raised_at rows k low) k up) k).up = (let b0 = b.0 in let b1 = b.1 in omega arith) in
             subst (λ (r : Row). r.low ≡ r.up) (sym capped-row) (let both = subst (λ (r : Row). r.low ≤ r.up) capped-row between in omega arith);
       })
@@ -220,11 +219,11 @@ Narrows-last [] r s g l u = (g, l, u, tt)
 Narrows-last (x ∷ rest) r s g l u = (refl, omega arith, omega arith, Narrows-last rest r s g l u)
 
 -- in the words of the code, which may cap to less than the rows allow where this is no less than the row's own up
-pub refresh-holds : (inst : Instance) (rows raised new : List Row) (k low up : ℕ) → AreRows (problem_of inst) rows → k < length rows
+pub back_up-holds : (inst : Instance) (rows raised new : List Row) (k low up : ℕ) → AreRows (problem_of inst) rows → k < length rows
     → low ≡ most_low (problem_of inst) (rows_from rows) (members (group_at rows k))
     → min (row_at rows k).up (least_up (problem_of inst) (rows_from rows) (members (group_at rows k))) ≤ up → up ≤ greedy_cost (problem_of inst) (members (group_at rows k))
     → raised ≡ raised_at rows k low → new ≡ capped_at raised k up → IsRefreshed (problem_of inst) rows new k low up
-refresh-holds inst rows raised new k low up known lt low_is above below raised_is new_is =
+back_up-holds inst rows raised new k low up known lt low_is above below raised_is new_is =
     let p = problem_of inst in
     let g = members (group_at rows k) in
     let least = least_up p (rows_from rows) g in
@@ -242,7 +241,7 @@ refresh-holds inst rows raised new k low up known lt low_is above below raised_i
       closes = λ le.
           let is : row_at new k ≡ record { group = group_at rows k; low = max (row_at rows k).low low; up = min (row_at rows k).up to } =
           ap (λ l. row_at l k) (new_is ∙ ap (λ l. capped_at l k up) raised_is ∙ same) ∙ get_or-set_same (raised_at rows k low) k _ no_row (let l = length-set rows k (record (row_at rows k) { low = max (row_at rows k).low low }) in omega arith) ∙ ap (λ (r : Row). record r { up = min r.up to }) row in
-          let b = row-bounds p new done.known (weighed inst) inst.valid.told k (omega arith) in
+          let b = row-bounds p new done.known inst.stands.weighed inst.valid.told k (omega arith) in
           let b0 = b.0 in
           let b1 = b.1 in
           let el : (row_at new k).low ≡ max (row_at rows k).low low = ap (λ (r : Row). r.low) is in

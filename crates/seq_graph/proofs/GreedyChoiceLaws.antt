@@ -16,9 +16,8 @@ use Rattle.seq_inst.specs.declared.group.Group.{Group}
 use Rattle.seq_inst.specs.declared.instance.Instance.{Instance}
 use Rattle.seq_inst.specs.Members.{members}
 use Rattle.seq_inst.specs.Instances.{problem_of}
-use Rattle.seq_inst.proofs.WithinLaws.{light}
 use Rattle.seq_huff.specs.Bounds.{greatest_cost}
-use Rattle.seq_huff.proofs.BoundFits.{product-le}
+use Rattle.seq_theory.proofs.BelowLaws.{product-le}
 use Rattle.seq_huff.proofs.GreedyCode.{greedy_parts, greedy-small}
 use Rattle.seq_graph.specs.declared.greedy.Chosen.{Chosen}
 use Rattle.seq_graph.specs.GreedyChoice.{IsNoLater, IsEvaluated, evaluated}
@@ -197,7 +196,7 @@ either-evaluated p group c d r either ic id = elim either [
 pub sum-fits : (inst : Instance) (g : Group) (cost weight test : ℕ) → IsWithin (problem_of inst) (members g) → test < (problem_of inst).tests → cost ≡ (problem_of inst).cost test → weight ≡ weight_of (problem_of inst) (members g) → cost * weight ≤ 4097000000000000
 sum-fits inst g cost weight test within there c w =
     let most = (inst.valid.costs test there).1 in
-    let l = light inst g within in
+    let l = inst.stands.light g within in
     product-le cost weight 1000000 4097000000 (omega arith) (omega arith)
 
 -- what greedy's first test and its costs of both parts add up to

@@ -12,8 +12,7 @@ use Rattle.seq_theory.proofs.GreedyLaws.{part-within, greedy-cheap, least-le-gre
 use Rattle.seq_theory.proofs.LowLaws.{bound-le-low, low-le-least}
 use Rattle.seq_theory.proofs.RowLaws.{same_group-true, wanted-within, sound-bounds}
 use Rattle.seq_huff.specs.Bounds.{greatest_cost}
-use Rattle.seq_huff.proofs.BoundFits.{product-le}
-use Rattle.seq_huff.proofs.LeastBounds.{weighed}
+use Rattle.seq_theory.proofs.BelowLaws.{product-le}
 use Rattle.seq_inst.specs.declared.group.Group.{Group}
 use Rattle.seq_inst.specs.declared.instance.Instance.{Instance}
 use Rattle.seq_inst.specs.declared.outcome.Row.{Row}
@@ -97,7 +96,7 @@ pub record IsLight (p : Problem) (xs : List ℕ) : Type 0 where
 
 module _ (inst : Instance) where
   pub light-group : (g : Group) → IsWithin (problem_of inst) (members g) → IsLight (problem_of inst) (members g)
-  light-group g within = record { within = within; short = length-members_below g 512; light = light inst g within }
+  light-group g within = record { within = within; short = length-members_below g 512; light = inst.stands.light g within }
 
   pub light-pass : (t : ℕ) (xs : List ℕ) → IsLight (problem_of inst) xs → IsLight (problem_of inst) (pass_part (problem_of inst) t xs)
   light-pass t xs h = record {
@@ -126,6 +125,6 @@ module _ (inst : Instance) where
   pub known_low-small : (rows : List Row) → AreRows (problem_of inst) rows → (xs : List ℕ) → IsLight (problem_of inst) xs → known_low (problem_of inst) (rows_from rows) xs ≤ greatest_cost
   known_low-small rows known xs h =
       let a = known_low-le (problem_of inst) rows known xs in
-      let b = low-le-least (problem_of inst) (groups_of (rows_from rows)) xs (weighed inst) inst.valid.told h.within in
+      let b = low-le-least (problem_of inst) (groups_of (rows_from rows)) xs inst.stands.weighed inst.valid.told h.within in
       let d = least-small xs h in
       omega arith

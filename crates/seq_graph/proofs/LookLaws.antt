@@ -8,7 +8,7 @@ use Rattle.seq_theory.specs.Graph.{is_entered, sum_with}
 use Rattle.seq_theory.specs.Rows.{row_of, up_or, known_up}
 use Rattle.seq_inst.specs.declared.outcome.Row.{Row}
 use Rattle.seq_inst.specs.Members.{members}
-use Rattle.seq_graph.specs.declared.kept.Kept.{Kept}
+use Rattle.seq_graph.specs.declared.node.Node.{Node}
 use Rattle.seq_graph.specs.Numbered.{Numbered}
 use Rattle.seq_core.specs.RowsOf.{rows_of as rows_from, place_in}
 use Rattle.seq_graph.specs.declared.graph.Count.{Count}
@@ -21,7 +21,7 @@ cases_place : (o : Option ℕ) → (o ≡ None) ⊎ ((k : ℕ) × (o ≡ Some k)
 cases_place None = inl refl
 cases_place (Some k) = inr (k, refl)
 
-module _ (p : Problem) (v : Numbered) (rows : List Row) (kept : List Kept) (counts : List Count) (known : AreKnown p v rows kept counts) where
+module _ (p : Problem) (v : Numbered) (rows : List Row) (kept : List Node) (counts : List Count) (known : AreKnown p v rows kept counts) where
   no-number : (g : List ℕ) → is_entered v.groups g ≡ false → row_of (rows_from rows) g ≡ None
   no-number g none = elim (cases_place (place_in (rows_from rows) g)) [
     | inl absent ↦ place-none rows g absent

@@ -16,8 +16,8 @@ use Rattle.seq_theory.specs.Graph.{same_group, is_entered}
 use Rattle.seq_theory.specs.Rows.{AreDistinct}
 use Rattle.seq_theory.proofs.RowLaws.{same_group-true, same_group-refl}
 use Rattle.seq_huff.specs.declared.order.Order.{Order}
-use Rattle.seq_inst.proofs.SameGroups.{AreWords as AreEightWords, same_members}
-use Rattle.seq_core.specs.Words.{IsWords, AreWords, classes_of}
+use Rattle.seq_inst.proofs.SameGroups.{same_members}
+use Rattle.seq_core.specs.Words.{AreItsWords, AreWords, classes_of}
 use Rattle.seq_graph.specs.declared.greedy.Greedy.{Greedy}
 use Rattle.seq_graph.specs.Numbered.{Numbered, HasNumber, IsGreedyOf, AreNumbers, KeepsNumbers}
 
@@ -64,16 +64,13 @@ module _ {X : Type 0} where
 
 -- ---- groups by their words ----
 
-eight : (words : List ℕ) → IsWords words → AreEightWords words
-eight words w = record { eight = w.eight; each = w.each }
-
-words-same : (a b : List ℕ) → IsWords a → IsWords b → same_group (classes_of a) (classes_of b) ≡ true → a ≡ b
-words-same a b wa wb e = same_members (record { 0 = a }) (record { 0 = b }) (eight a wa) (eight b wb) (same_group-true (classes_of a) (classes_of b) e)
+words-same : (a b : List ℕ) → AreItsWords a → AreItsWords b → same_group (classes_of a) (classes_of b) ≡ true → a ≡ b
+words-same a b wa wb e = same_members (record { 0 = a }) (record { 0 = b }) wa wb (same_group-true (classes_of a) (classes_of b) e)
 
 pub same-classes : (a b : List ℕ) → bytes_eq a b ≡ true → same_group (classes_of a) (classes_of b) ≡ true
 same-classes a b e = ap (λ l. same_group (classes_of a) (classes_of l)) (sym ((bytes_eq-Decides a b).0 e)) ∙ same_group-refl (classes_of a)
 
-pub other-classes : (a b : List ℕ) → IsWords a → IsWords b → bytes_eq a b ≡ false → same_group (classes_of a) (classes_of b) ≡ false
+pub other-classes : (a b : List ℕ) → AreItsWords a → AreItsWords b → bytes_eq a b ≡ false → same_group (classes_of a) (classes_of b) ≡ false
 other-classes a b wa wb n = elim (cases_Bool (same_group (classes_of a) (classes_of b))) [
   | inr m ↦ m
   | inl y ↦ absurd (true≢false (sym ((bytes_eq-Decides a b).1 (words-same a b wa wb y)) ∙ n))
@@ -91,7 +88,7 @@ found-number keys words n e =
     slice_get-map classes_of keys n ∙ ap (option_map classes_of) (slice_get-get_or keys n words at.0) ∙ ap (λ l. Some (classes_of l)) (sym same)
 
 -- the group of a key that isn't found has no number
-pub absent-number : (entries : List (List ℕ × ℕ)) (words : List ℕ) → AreWords (keys_of entries) → IsWords words → is_some (lookup (bytes_eq words) entries) ≡ false → is_entered (map classes_of (keys_of entries)) (classes_of words) ≡ false
+pub absent-number : (entries : List (List ℕ × ℕ)) (words : List ℕ) → AreWords (keys_of entries) → AreItsWords words → is_some (lookup (bytes_eq words) entries) ≡ false → is_entered (map classes_of (keys_of entries)) (classes_of words) ≡ false
 absent-number [] words all w e = refl
 absent-number (x ∷ rest) words all w e = elim (cases_Bool (bytes_eq words x.0)) [
   | inl y ↦ absurd (true≢false (sym (ap (λ b. is_some (cond b (Some x.1) (lookup (bytes_eq words) rest))) y) ∙ e))
@@ -111,10 +108,10 @@ absent-key (x ∷ rest) words e = elim (cases_Bool (bytes_eq words x.0)) [
       ap (λ b. cond b (Some x.1) (lookup (bytes_eq words) rest)) n ∙ absent-key rest words later)
 ]
 
-pub words-more : (keys : List (List ℕ)) (words : List ℕ) → AreWords keys → IsWords words → AreWords (keys ++ words ∷ [])
+pub words-more : (keys : List (List ℕ)) (words : List ℕ) → AreWords keys → AreItsWords words → AreWords (keys ++ words ∷ [])
 words-more keys words all w n l at = elim (get-more keys words n l at) [
   | inl old ↦ all n l old
-  | inr new ↦ subst IsWords (sym new.1) w
+  | inr new ↦ subst AreItsWords (sym new.1) w
 ]
 
 pub key-group : (entries : List (List ℕ × ℕ)) (n : ℕ) (words : List ℕ) (b : ℕ) → slice_get entries n ≡ Some (words, b) → slice_get (map classes_of (keys_of entries)) n ≡ Some (classes_of words)

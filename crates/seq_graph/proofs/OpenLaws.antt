@@ -6,7 +6,6 @@ use Rattle.std.proofs.lemmas.Bool.{cases_Bool, eqb-true, eq-eqb, ne_eqb}
 use Rattle.seq_inst.specs.declared.instance.Instance.{Instance}
 use Rattle.seq_inst.specs.declared.outcome.Row.{Row}
 use Rattle.seq_inst.specs.Instances.{problem_of}
-use Rattle.seq_huff.proofs.LeastBounds.{weighed}
 use Rattle.seq_graph.specs.Known.{AreRows, row_at, Narrows, IsClosedAt}
 use Rattle.seq_graph.specs.Walks.{open_rows, left}
 use Rattle.seq_graph.proofs.KnownLaws.{row-bounds}
@@ -18,7 +17,7 @@ AreBetween rows = (k : ℕ) → k < length rows → (row_at rows k).low ≤ (row
 
 pub known-between : (inst : Instance) (rows : List Row) → AreRows (problem_of inst) rows → AreBetween rows
 known-between inst rows known k lt =
-    let b = row-bounds (problem_of inst) rows known (weighed inst) inst.valid.told k lt in
+    let b = row-bounds (problem_of inst) rows known inst.stands.weighed inst.valid.told k lt in
     let b0 = b.0 in
     let b1 = b.1 in
     omega arith

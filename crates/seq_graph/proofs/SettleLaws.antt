@@ -15,15 +15,14 @@ use Rattle.seq_theory.proofs.PartsRecursion.{splitting-splits}
 use Rattle.seq_theory.proofs.LowLaws.{low-le-least}
 use Rattle.seq_theory.proofs.ValLaws.{least-le-val, least_of-first, least_of-values-le, IsLeastValue, is_first, is_at, least_value, values-at_least, sum_with-parts}
 use Rattle.seq_huff.proofs.CountedLaws.{counted-length, counted-below}
-use Rattle.seq_huff.proofs.LeastBounds.{weighed}
 use Rattle.seq_inst.specs.declared.group.Group.{Group}
 use Rattle.seq_inst.specs.declared.instance.Instance.{Instance}
 use Rattle.seq_inst.specs.declared.outcome.Row.{Row}
 use Rattle.seq_inst.specs.Members.{members}
 use Rattle.seq_inst.specs.Instances.{problem_of}
-use Rattle.seq_graph.specs.declared.kept.Kept.{Kept}
-use Rattle.seq_graph.specs.declared.kept.Split.{Split}
-use Rattle.seq_graph.specs.declared.kept.Waiting.{Waiting}
+use Rattle.seq_graph.specs.declared.node.Node.{Node}
+use Rattle.seq_graph.specs.declared.node.Split.{Split}
+use Rattle.seq_graph.specs.declared.node.Waiting.{Waiting}
 use Rattle.seq_graph.specs.KeptOf.{Waits}
 use Rattle.seq_graph.specs.Numbered.{Numbered}
 use Rattle.seq_core.specs.RowsOf.{rows_of as rows_from}
@@ -48,7 +47,7 @@ settling inst rows known size below =
 none-some : (n : ℕ) → None ≡ Some n → ⊥
 none-some n e = let bad : ⊥ = cc in bad
 
-module _ (inst : Instance) (v : Numbered) (rows : List Row) (kept : List Kept) (counts : List Count) (known : AreKnown (problem_of inst) v rows kept counts) (place : ℕ) (lt : place < length rows)
+module _ (inst : Instance) (v : Numbered) (rows : List Row) (kept : List Node) (counts : List Count) (known : AreKnown (problem_of inst) v rows kept counts) (place : ℕ) (lt : place < length rows)
     (below : AreSettledBelow (problem_of inst) rows (size_at rows place)) where
   as-settling : AreSettling (problem_of inst) rows rows (λ k. size_at rows k < size_at rows place)
   as-settling = settling inst rows known.rows_are (size_at rows place) below
@@ -58,7 +57,7 @@ module _ (inst : Instance) (v : Numbered) (rows : List Row) (kept : List Kept) (
   low-le-up part u small within is =
       let p = problem_of inst in
       let e = known_low-settled inst rows rows (λ k. size_at rows k < size_at rows place) as-settling (size_at rows place) (λ j there less. less) part small in
-      let a = low-le-least p (groups_in rows) part (weighed inst) inst.valid.told within in
+      let a = low-le-least p (groups_in rows) part inst.stands.weighed inst.valid.told within in
       let b = least-le-val p (groups_in rows) part u inst.valid.told within (sym (known_up-settled inst rows rows (λ k. size_at rows k < size_at rows place) as-settling (size_at rows place) (λ j there less. less) part small) ∙ is) in
       omega arith
 
@@ -77,7 +76,7 @@ module _ (inst : Instance) (v : Numbered) (rows : List Row) (kept : List Kept) (
       omega arith
 
   -- a test that gives a value is evaluated, or gives more than the row's up
-  capped-at : (k : Kept) → slice_get kept place ≡ Some k → NoneIsValued (problem_of inst) rows kept place → (t n : ℕ) → IsIn t (splitting (problem_of inst) (members (group_at rows place)))
+  capped-at : (k : Node) → slice_get kept place ≡ Some k → NoneIsValued (problem_of inst) rows kept place → (t n : ℕ) → IsIn t (splitting (problem_of inst) (members (group_at rows place)))
       → step_value (problem_of inst) (known_up (problem_of inst) (rows_from rows)) (members (group_at rows place)) t ≡ Some n → min (row_at rows place).up (evaluated_up (problem_of inst) rows kept place) ≤ n
   capped-at k at none t n it is =
       let p = problem_of inst in

@@ -4,8 +4,8 @@ use Rattle.std.proofs.lemmas.List.Elements.{All-contains, Contains-push}
 use Rattle.std.proofs.lemmas.Option.{slice_get_read}
 use Rattle.seq_theory.specs.Problem.{Problem, IsIn, splitting}
 use Rattle.seq_theory.proofs.PartsRecursion.{splitting-there}
-use Rattle.seq_graph.specs.declared.kept.Kept.{Kept}
-use Rattle.seq_graph.specs.declared.kept.Split.{Split}
+use Rattle.seq_graph.specs.declared.node.Node.{Node}
+use Rattle.seq_graph.specs.declared.node.Split.{Split}
 use Rattle.seq_graph.specs.KeptOf.{HasParts}
 use Rattle.seq_graph.specs.Numbered.{Numbered}
 use Rattle.seq_inst.specs.declared.outcome.Row.{Row}
@@ -16,7 +16,6 @@ use Rattle.seq_theory.specs.Greedy.{first_least}
 use Rattle.seq_theory.specs.Rows.{groups_of, known_low}
 use Rattle.seq_theory.proofs.RowLaws.{most_low-le}
 use Rattle.seq_theory.proofs.LowLaws.{low-le-least}
-use Rattle.seq_huff.proofs.LeastBounds.{weighed}
 use Rattle.seq_inst.specs.declared.instance.Instance.{Instance}
 use Rattle.seq_inst.specs.Instances.{problem_of}
 use Rattle.seq_core.specs.RowsOf.{rows_of as rows_from}
@@ -28,7 +27,7 @@ pub record IsSplitOf (p : Problem) (v : Numbered) (group : List ℕ) (s : Split)
   pub parts : HasParts p v group s
   pub there : s.test < p.tests
 
-module _ (p : Problem) (v : Numbered) (rows : List Row) (r : Row) (k : Kept) (splits : List Split) (kept : IsKeptBy p v rows r k) (are : splits ≡ k.splits.items) where
+module _ (p : Problem) (v : Numbered) (rows : List Row) (r : Row) (k : Node) (splits : List Split) (kept : IsKeptBy p v rows r k) (are : splits ≡ k.splits.items) where
   pub split-at : (i : ℕ) (d : Split) → i < length splits → IsSplitOf p v (members r.group) (get_or splits i d)
   split-at i d lt = record {
     parts = subst (λ l. HasParts p v (members r.group) (get_or l i d)) (sym are) (kept.tests.parts i d (let l = ap length are in omega arith));
@@ -37,10 +36,10 @@ module _ (p : Problem) (v : Numbered) (rows : List Row) (r : Row) (k : Kept) (sp
   }
 
 -- the last of the evaluated tests of a row's group
-pub last-split : (p : Problem) (v : Numbered) (rows : List Row) (kept : List Kept) → AreKept p v rows kept → (place : ℕ) (before : List Split) (s : Split) → splits_at kept place ≡ before ++ s ∷ [] → IsSplitOf p v (members (group_at rows place)) s
+pub last-split : (p : Problem) (v : Numbered) (rows : List Row) (kept : List Node) → AreKept p v rows kept → (place : ℕ) (before : List Split) (s : Split) → splits_at kept place ≡ before ++ s ∷ [] → IsSplitOf p v (members (group_at rows place)) s
 last-split p v rows kept are place before s e = go (slice_get kept place) refl e
   where
-    go : (o : Option Kept) → slice_get kept place ≡ o → splits_in o ≡ before ++ s ∷ [] → IsSplitOf p v (members (group_at rows place)) s
+    go : (o : Option Node) → slice_get kept place ≡ o → splits_in o ≡ before ++ s ∷ [] → IsSplitOf p v (members (group_at rows place)) s
     go None at is = absurd (let none = ap length is in let some = length-append before (s ∷ []) in let bad : ⊥ = omega arith in bad)
     go (Some k) at is =
         let g = members (group_at rows place) in
@@ -52,27 +51,27 @@ last-split p v rows kept are place before s e = go (slice_get kept place) refl e
         }
 
 -- something is kept at each place
-pub kept-there : (kept : List Kept) (place : ℕ) → place < length kept → (k : Kept) × (slice_get kept place ≡ Some k)
+pub kept-there : (kept : List Node) (place : ℕ) → place < length kept → (k : Node) × (slice_get kept place ≡ Some k)
 kept-there [] place lt = absurd (let bad : ⊥ = omega arith in bad)
 kept-there (k ∷ rest) zero lt = (k, refl)
 kept-there (k ∷ rest) (suc place) lt = kept-there rest place (omega arith)
 
 -- what is read of a kept group
-pub splits-read : (kept : List Kept) (place : ℕ) (k : Kept) → place < length kept → k ≡ get_or kept place k → splits_at kept place ≡ k.splits.items
+pub splits-read : (kept : List Node) (place : ℕ) (k : Node) → place < length kept → k ≡ get_or kept place k → splits_at kept place ≡ k.splits.items
 splits-read kept place k lt read = ap splits_in (slice_get_read kept (length kept) place k refl lt read)
 
-pub waiting-read : (kept : List Kept) (place : ℕ) (k : Kept) → place < length kept → k ≡ get_or kept place k → waiting_at kept place ≡ k.waiting.items
+pub waiting-read : (kept : List Node) (place : ℕ) (k : Node) → place < length kept → k ≡ get_or kept place k → waiting_at kept place ≡ k.waiting.items
 waiting-read kept place k lt read = ap waiting_in (slice_get_read kept (length kept) place k refl lt read)
 
-get-set : (kept : List Kept) (place : ℕ) (k : Kept) → place < length kept → slice_get (set kept place k) place ≡ Some k
+get-set : (kept : List Node) (place : ℕ) (k : Node) → place < length kept → slice_get (set kept place k) place ≡ Some k
 get-set [] place k lt = absurd (let bad : ⊥ = omega arith in bad)
 get-set (x ∷ rest) zero k lt = refl
 get-set (x ∷ rest) (suc place) k lt = get-set rest place k (omega arith)
 
-pub splits-set : (kept : List Kept) (place : ℕ) (k : Kept) → place < length kept → splits_at (set kept place k) place ≡ k.splits.items
+pub splits-set : (kept : List Node) (place : ℕ) (k : Node) → place < length kept → splits_at (set kept place k) place ≡ k.splits.items
 splits-set kept place k lt = ap splits_in (get-set kept place k lt)
 
-pub waiting-set : (kept : List Kept) (place : ℕ) (k : Kept) → place < length kept → waiting_at (set kept place k) place ≡ k.waiting.items
+pub waiting-set : (kept : List Node) (place : ℕ) (k : Node) → place < length kept → waiting_at (set kept place k) place ≡ k.waiting.items
 waiting-set kept place k lt = ap waiting_in (get-set kept place k lt)
 
 -- the least sum is at most the row's up, so its test is never left out
@@ -89,7 +88,7 @@ module _ (inst : Instance) (rows : List Row) (known : AreRows (problem_of inst) 
       let entered = groups_of (rows_from rows) in
       let within = row-within p rows known place lt in
       let a = most_low-le p entered (rows_from rows) known.sound.lows g (row-real p rows known place lt).goals (row-entered rows place no_row lt) in
-      let b = low-le-least p entered g (weighed inst) inst.valid.told within in
-      let c = (row-bounds p rows known (weighed inst) inst.valid.told place lt).1 in
+      let b = low-le-least p entered g inst.stands.weighed inst.valid.told within in
+      let c = (row-bounds p rows known inst.stands.weighed inst.valid.told place lt).1 in
       let e = first-test.least in
       omega arith

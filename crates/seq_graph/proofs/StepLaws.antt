@@ -12,7 +12,6 @@ use Rattle.seq_theory.proofs.GroupLaws.{pass_part_smaller, fail_part_smaller}
 use Rattle.seq_theory.proofs.PartsRecursion.{splitting-splits, splitting-there}
 use Rattle.seq_theory.proofs.LowLaws.{low-le-least}
 use Rattle.seq_theory.proofs.WantedLaws.{walk-wanted}
-use Rattle.seq_huff.proofs.LeastBounds.{weighed}
 use Rattle.seq_inst.specs.declared.group.Group.{Group}
 use Rattle.seq_inst.specs.declared.instance.Instance.{Instance}
 use Rattle.seq_inst.specs.declared.outcome.Row.{Row}
@@ -22,7 +21,7 @@ use Rattle.seq_core.specs.RowsOf.{row_of as row_from, rows_of as rows_from}
 use Rattle.seq_graph.proofs.RowLaws.{row-none}
 use Rattle.seq_graph.specs.declared.steps.Knowledge.{Knowledge}
 use Rattle.seq_graph.specs.declared.steps.Knowledge.TheVariants.{Unknown, Open, Closed}
-use Rattle.seq_graph.specs.declared.kept.Kept.{Kept}
+use Rattle.seq_graph.specs.declared.node.Node.{Node}
 use Rattle.seq_graph.specs.Numbered.{Numbered, HasNumber}
 use Rattle.seq_core.specs.Settled.{value_or}
 use Rattle.seq_graph.specs.declared.graph.Count.{Count}
@@ -40,7 +39,7 @@ use Rattle.seq_graph.proofs.OpenLaws.{known-between, left-entered, left-narrows,
 
 -- ---- what is known of a part, by what it counts ----
 
-module _ (inst : Instance) (v : Numbered) (rows : List Row) (kept : List Kept) (counts : List Count) (known : AreKnown (problem_of inst) v rows kept counts) where
+module _ (inst : Instance) (v : Numbered) (rows : List Row) (kept : List Node) (counts : List Count) (known : AreKnown (problem_of inst) v rows kept counts) where
   counted : (g : List ℕ) (n : ℕ) (x : Count) → HasNumber v g n → x ≡ get_or counts n x → x ≡ count_of (problem_of inst) rows g
   counted = count-read (problem_of inst) v rows kept counts known
 
@@ -85,10 +84,10 @@ module _ (inst : Instance) (v : Numbered) (rows : List Row) (kept : List Kept) (
   low-above : (place : ℕ) → place < length rows → (row_at rows place).low ≡ (row_at rows place).up → bound (problem_of inst) (members (group_at rows place)) ≤ (row_at rows place).low
   low-above place lt closed =
       let p = problem_of inst in
-      let b = row-bounds p rows known.rows_are (weighed inst) inst.valid.told place lt in
+      let b = row-bounds p rows known.rows_are inst.stands.weighed inst.valid.told place lt in
       let b0 = b.0 in
       let b1 = b.1 in
-      let low = bound-le-least p (members (group_at rows place)) (weighed inst) inst.valid.told (row-within p rows known.rows_are place lt) in
+      let low = bound-le-least p (members (group_at rows place)) inst.stands.weighed inst.valid.told (row-within p rows known.rows_are place lt) in
       omega arith
 
   pub open-counted : (g : List ℕ) (n : ℕ) (x : Count) (place : ℕ) → HasNumber v g n → x ≡ get_or counts n x → x.place ≡ Some place → x.low ≢ x.up → IsOpenAt rows g place
@@ -127,7 +126,7 @@ module _ (inst : Instance) (rows : List Row) (known : AreRows (problem_of inst) 
       let wanted = walk-wanted p (known_low p (rows_from rows)) (members (group_at rows place)) t passed inst.valid.told real.wanted real.goals
       (splitting-there p (members (group_at rows place)) t first.among) (splitting-splits p (members (group_at rows place)) t first.among)
       (bound-le-known_low p rows known)
-      (λ x within. let a = known_low-le p rows known x in let b = low-le-least p (groups_of (rows_from rows)) x (weighed inst) inst.valid.told within in omega arith) first.least in
+      (λ x within. let a = known_low-le p rows known x in let b = low-le-least p (groups_of (rows_from rows)) x inst.stands.weighed inst.valid.told within in omega arith) first.least in
       record {
         real = record { wanted = subst (IsWanted p) (sym is) wanted; goals = unknown.goals };
         absent = row-none (rows_from rows) (members g) unknown.absent;
@@ -190,9 +189,6 @@ group-append [] r k lt = absurd (let bad : ⊥ = omega arith in bad)
 group-append (s ∷ rest) r zero lt = refl
 group-append (s ∷ rest) r (suc k) lt = group-append rest r k (omega arith)
 
-pub entered-long : (old new : List Row) (r : Row) → Narrows (old ++ r ∷ []) new → length old < length new
-entered-long old new r n = let l = length-Narrows (old ++ r ∷ []) new n in let m = length-append old (r ∷ []) in omega arith
-
 module _ (inst : Instance) (limit : ℕ) (old : List Row) where
   pub moved-enter : (r : Row) (entered new : List Row) → length old < limit → AreRows (problem_of inst) entered → Narrows (old ++ r ∷ []) entered → AreRows (problem_of inst) new → Narrows entered new → HasMoved (problem_of inst) limit old new
   moved-enter r entered new room known1 n1 known n2 =
@@ -229,8 +225,3 @@ module _ (inst : Instance) (limit : ℕ) (old : List Row) where
         keeps = λ k lt. (omega arith, group-Narrows old new k n lt);
         less = left-closes limit old new place n (known-between inst new known) lt apart closed;
       }
-
--- a turn that stopped at no group has moved
-pub turned-none : (p : Problem) (limit : ℕ) (old new : List Row) (o : Option Group) → ((g : Group) → o ≡ Some g → ⊥) → HasTurned p limit old new o → HasMoved p limit old new
-turned-none p limit old new None h t = t
-turned-none p limit old new (Some g) h t = absurd (h g refl)

@@ -13,8 +13,8 @@ use Rattle.seq_inst.specs.declared.instance.Instance.{Instance}
 use Rattle.seq_inst.specs.declared.outcome.Row.{Row}
 use Rattle.seq_inst.specs.Members.{members}
 use Rattle.seq_inst.specs.Instances.{problem_of}
-use Rattle.seq_graph.specs.declared.kept.Kept.{Kept}
-use Rattle.seq_graph.specs.declared.kept.Split.{Split}
+use Rattle.seq_graph.specs.declared.node.Node.{Node}
+use Rattle.seq_graph.specs.declared.node.Split.{Split}
 use Rattle.seq_graph.specs.Numbered.{Numbered}
 use Rattle.seq_core.specs.RowsOf.{rows_of as rows_from}
 use Rattle.seq_graph.specs.declared.graph.Count.{Count}
@@ -27,7 +27,7 @@ use Rattle.seq_graph.proofs.SplitLaws.{splits-read}
 use Rattle.seq_graph.proofs.ChoiceLaws.{IsFirst, least_test-first, most_low-is}
 use Rattle.seq_graph.proofs.CoverLaws.{test-listed}
 use Rattle.seq_graph.proofs.CapLaws.{cap-above, cap-greedy, cap-closes}
-use Rattle.seq_graph.proofs.EventLaws.{IsRefreshed, refresh-holds}
+use Rattle.seq_graph.proofs.EventLaws.{IsRefreshed, back_up-holds}
 
 test-among : (splits : List Split) (i : ℕ) (d : Split) → i < length splits → IsIn (get_or splits i d).test (map (λ s. s.test) splits)
 test-among [] i d lt = absurd (let bad : ⊥ = omega arith in bad)
@@ -39,7 +39,7 @@ least-capped : (u g : ℕ) (xs : List ℕ) → min u (least_of (min u g ∷ xs))
 least-capped u g [] = omega arith
 least-capped u g (x ∷ rest) = omega arith
 
-module _ (inst : Instance) (v : Numbered) (rows : List Row) (kept : List Kept) (counts : List Count) (known : AreKnown (problem_of inst) v rows kept counts) (place : ℕ) (lt : place < length rows) (k : Kept) (read : k ≡ get_or kept place k)
+module _ (inst : Instance) (v : Numbered) (rows : List Row) (kept : List Node) (counts : List Count) (known : AreKnown (problem_of inst) v rows kept counts) (place : ℕ) (lt : place < length rows) (k : Node) (read : k ≡ get_or kept place k)
     (t sum low up : ℕ) (test_is : t ≡ least_test (problem_of inst) rows (members (group_at rows place)))
     (sum_is : sum ≡ step_sum (problem_of inst) (known_low (problem_of inst) (rows_from rows)) (members (group_at rows place)) t) (low_is : low ≡ max k.bound sum)
     (up_is : up ≡ least_of (min (row_at rows place).up (greedy_cost (problem_of inst) (members (group_at rows place))) ∷ filter_map (step_value (problem_of inst) (known_up (problem_of inst) (rows_from rows)) (members (group_at rows place))) (map (λ s. s.test) (splits_at kept place)))) where
@@ -85,7 +85,7 @@ module _ (inst : Instance) (v : Numbered) (rows : List Row) (kept : List Kept) (
       let tests = map (λ (s : Split). s.test) (splits_at kept place) in
       let above = cap-above p (rows_from rows) g r.up tests within in
       let below = cap-greedy p (rows_from rows) g r.up tests in
-      refresh-holds inst rows raised new place low up known.rows_are lt most (omega arith) (omega arith) raised_is new_is
+      back_up-holds inst rows raised new place low up known.rows_are lt most (omega arith) (omega arith) raised_is new_is
 
   pub closes-below : (s : Split) → s.test ≡ t → Contains (splits_at kept place) s → ClosesBelow (problem_of inst) rows (members (group_at rows place)) → up ≤ low
   closes-below s is c closed =

@@ -1,7 +1,7 @@
 -- The evaluated test of least sum, the lowest of these; when it is certain; and the lesser of a number and a value.
 use Rattle.std.specs.Prelude.{◌≡◌, ◌⊎◌, ℕ, ◌<◌, ◌≤◌, cond, nat_le, nat_lt, nat_eq, ◌&&◌, ◌||◌, min, length, slice_index_or, All, Contains, List, [], Option, Some, None}
-use Rattle.seq_graph.specs.declared.kept.Split.{Split}
-use Rattle.seq_graph.specs.declared.kept.Waiting.{Waiting}
+use Rattle.seq_graph.specs.declared.node.Split.{Split}
+use Rattle.seq_graph.specs.declared.node.Waiting.{Waiting}
 use Rattle.seq_graph.specs.declared.choice.Chosen.{Chosen}
 
 -- the earlier choice, unless the new sum is less, or no more and its test lower

@@ -4,9 +4,9 @@ use Rattle.std.specs.Prelude.{◌≡◌, ◌⊎◌, ℕ, ◌<◌, ◌≤◌, All
 use Rattle.seq_theory.specs.Problem.{Problem, IsIn, pass_part, fail_part, splitting, weight_of}
 use Rattle.seq_theory.specs.Bound.{bound as bound_of, step_sum}
 use Rattle.seq_theory.specs.Greedy.{greedy_cost}
-use Rattle.seq_graph.specs.declared.kept.Kept.{Kept}
-use Rattle.seq_graph.specs.declared.kept.Split.{Split}
-use Rattle.seq_graph.specs.declared.kept.Waiting.{Waiting}
+use Rattle.seq_graph.specs.declared.node.Node.{Node}
+use Rattle.seq_graph.specs.declared.node.Split.{Split}
+use Rattle.seq_graph.specs.declared.node.Waiting.{Waiting}
 use Rattle.seq_graph.specs.Numbered.{Numbered, HasNumber}
 
 -- the parts of the group by the test have these numbers
@@ -38,7 +38,7 @@ pub record AreTestsOf (p : Problem) (v : Numbered) (group : List ℕ) (sum : ℕ
   pub splits_are : All (λ s. IsIn s.test (splitting p group)) splits
   pub waiting_are : All (λ w. IsIn w.test (splitting p group)) waiting
 
-pub record IsKeptOf (p : Problem) (v : Numbered) (group : List ℕ) (k : Kept) : Type 0 where
+pub record IsKeptOf (p : Problem) (v : Numbered) (group : List ℕ) (k : Node) : Type 0 where
   pub number : HasNumber v group k.number
   pub weight : k.weight ≡ weight_of p group
   pub bound : k.bound ≡ bound_of p group
@@ -47,7 +47,7 @@ pub record IsKeptOf (p : Problem) (v : Numbered) (group : List ℕ) (k : Kept) :
 
 -- the entry at the place waits no longer, the last one of the list stands there, and its test is the last of the evaluated
 -- ones, with the numbers of its parts
-pub record IsEvaluated (p : Problem) (v : Numbered) (group : List ℕ) (at : ℕ) (old new : Kept) : Type 0 where
+pub record IsEvaluated (p : Problem) (v : Numbered) (group : List ℕ) (at : ℕ) (old new : Node) : Type 0 where
   pub entry : Waiting
   pub split : Split
   pub waited : slice_get old.waiting.items at ≡ Some entry
@@ -57,6 +57,6 @@ pub record IsEvaluated (p : Problem) (v : Numbered) (group : List ℕ) (at : ℕ
   pub splits : new.splits.items ≡ old.splits.items ++ split ∷ []
 
 -- whatever the sums and the up are: what the lists tell of the group's tests before is told after
-abbrev pub KeepsTests : Problem → (before after : Numbered) → List ℕ → (old new : Kept) → Type 0
+abbrev pub KeepsTests : Problem → (before after : Numbered) → List ℕ → (old new : Node) → Type 0
 KeepsTests p before after group old new = (sum : ℕ → ℕ) (up : ℕ) → AreTestsOf p before group sum up old.splits.items old.waiting.items
     → AreTestsOf p after group sum up new.splits.items new.waiting.items

@@ -9,9 +9,9 @@ use Rattle.seq_inst.specs.declared.group.Group.{Group}
 use Rattle.seq_inst.specs.declared.outcome.Row.{Row}
 use Rattle.seq_inst.specs.Members.{members}
 use Rattle.seq_inst.specs.Valid.{no_class}
-use Rattle.seq_graph.specs.declared.kept.Kept.{Kept}
-use Rattle.seq_graph.specs.declared.kept.Split.{Split}
-use Rattle.seq_graph.specs.declared.kept.Waiting.{Waiting}
+use Rattle.seq_graph.specs.declared.node.Node.{Node}
+use Rattle.seq_graph.specs.declared.node.Split.{Split}
+use Rattle.seq_graph.specs.declared.node.Waiting.{Waiting}
 use Rattle.seq_graph.specs.KeptOf.{AreTestsOf}
 use Rattle.seq_graph.specs.Numbered.{Numbered, HasNumber, AreNumbers}
 use Rattle.seq_core.specs.RowsOf.{rows_of as rows_from, place_in}
@@ -42,7 +42,7 @@ group_at rows place = (row_at rows place).group
 -- what is kept of a row's group. Of the tests that split it each is evaluated, or waits with a number that is at most its sum, or
 -- is left out since its sum is above the row's up: lows rise and ups fall, so such a test is never again the one of least sum,
 -- and gives no lower up
-pub record IsKeptBy (p : Problem) (v : Numbered) (rows : List Row) (r : Row) (k : Kept) : Type 0 where
+pub record IsKeptBy (p : Problem) (v : Numbered) (rows : List Row) (r : Row) (k : Node) : Type 0 where
   pub number : HasNumber v (members r.group) k.number
   pub weight : k.weight ≡ weight_of p (members r.group)
   pub bound_is : k.bound ≡ bound p (members r.group)
@@ -50,38 +50,38 @@ pub record IsKeptBy (p : Problem) (v : Numbered) (rows : List Row) (r : Row) (k 
   pub tests : AreTestsOf p v (members r.group) (step_sum p (known_low p (rows_from rows)) (members r.group)) r.up k.splits.items k.waiting.items
 
 -- the evaluated tests of the group of a place, and those that wait
-abbrev pub splits_in : Option Kept → List Split
+abbrev pub splits_in : Option Node → List Split
 splits_in None = []
 splits_in (Some k) = k.splits.items
 
-abbrev pub splits_at : List Kept → ℕ → List Split
+abbrev pub splits_at : List Node → ℕ → List Split
 splits_at kept place = splits_in (slice_get kept place)
 
-abbrev pub waiting_in : Option Kept → List Waiting
+abbrev pub waiting_in : Option Node → List Waiting
 waiting_in None = []
 waiting_in (Some k) = k.waiting.items
 
-abbrev pub waiting_at : List Kept → ℕ → List Waiting
+abbrev pub waiting_at : List Node → ℕ → List Waiting
 waiting_at kept place = waiting_in (slice_get kept place)
 
 -- what is kept is that of the rows, one by one
-pub record AreKept (p : Problem) (v : Numbered) (rows : List Row) (kept : List Kept) : Type 0 where
+pub record AreKept (p : Problem) (v : Numbered) (rows : List Row) (kept : List Node) : Type 0 where
   pub as_many : length kept ≡ length rows
-  pub each : (place : ℕ) (k : Kept) → slice_get kept place ≡ Some k → IsKeptBy p v rows (row_at rows place) k
+  pub each : (place : ℕ) (k : Node) → slice_get kept place ≡ Some k → IsKeptBy p v rows (row_at rows place) k
 
 -- what a group counts for a low and for an up, and the place of its row
 abbrev pub count_of : Problem → List Row → List ℕ → Count
 count_of p rows group = record { low = known_low p (rows_from rows) group; up = value_or (known_up p (rows_from rows) group); place = place_in (rows_from rows) group }
 
 -- the rows are sound, the numbers and what is kept are right, and beside each number stands what its group counts
-pub record AreKnown (p : Problem) (v : Numbered) (rows : List Row) (kept : List Kept) (counts : List Count) : Type 0 where
+pub record AreKnown (p : Problem) (v : Numbered) (rows : List Row) (kept : List Node) (counts : List Count) : Type 0 where
   pub rows_are : AreRows p rows
   pub numbers_are : AreNumbers p v
   pub kept_are : AreKept p v rows kept
   pub counts_are : counts ≡ map (count_of p rows) v.groups
 
 abbrev pub IsKnown : Problem → Graph → Type 0
-IsKnown p s = AreKnown p s.numbers s.rows.items s.kept.items s.counts.items
+IsKnown p s = AreKnown p s.numbers s.rows.items s.nodes.items s.counts.items
 
 -- the rows with one row's low raised, or its up lowered
 abbrev pub raised_at : List Row → ℕ → ℕ → List Row

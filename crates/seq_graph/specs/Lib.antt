@@ -11,3 +11,4 @@ pub mod Choice
 pub mod Parts
 pub mod Steps
 pub mod Walks
+pub mod Laws

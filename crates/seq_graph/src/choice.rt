@@ -17,7 +17,7 @@ ghost use Rattle.seq_graph.specs.Choice.{lesser_choice, lesser_value, IsChoice};
 ghost use Rattle.seq_graph.specs.Steps.{least_test as least_test_of};
 
 use crate::graph::Graph;
-use crate::kept::Split;
+use crate::node::Split;
 use crate::sums::sum_of;
 use crate::waiting::{evaluate, next_waiting};
 use seq_huff::Scratch;
@@ -52,7 +52,7 @@ fn low_sum(inst: &Instance, graph: &Graph, place: usize, split: Split) -> u64
     requires there { split.test < length inst.now.costs.items }
     ensures { result ≡ step_sum (problem_of inst.now) (known_low (problem_of inst.now) (rows_from graph.now.rows.items)) (members (group_at graph.now.rows.items place)) split.test }
 {
-    let weight = graph.kept[place].weight;
+    let weight = graph.nodes[place].weight;
     sum_of(inst, graph.counts.as_slice(), weight, split)
 }
 
@@ -60,9 +60,9 @@ fn low_sum(inst: &Instance, graph: &Graph, place: usize, split: Split) -> u64
 fn least_evaluated(inst: &Instance, graph: &Graph, place: usize) -> Option<Chosen>
     requires known { IsKnown (problem_of inst.now) graph.now }
     requires place { place < length graph.now.rows.items }
-    ensures { IsChoice (step_sum (problem_of inst.now) (known_low (problem_of inst.now) (rows_from graph.now.rows.items)) (members (group_at graph.now.rows.items place))) (splits_at graph.now.kept.items place) result }
+    ensures { IsChoice (step_sum (problem_of inst.now) (known_low (problem_of inst.now) (rows_from graph.now.rows.items)) (members (group_at graph.now.rows.items place))) (splits_at graph.now.nodes.items place) result }
 {
-    let splits = graph.kept[place].splits.as_slice();
+    let splits = graph.nodes[place].splits.as_slice();
     let mut chosen = None;
     for split in splits {
         let sum = low_sum(inst, graph, place, *split);
@@ -85,10 +85,10 @@ pub(crate) fn least_test(
     ensures test { IfOk result (λ c. c.split.test ≡ least_test_of (problem_of inst.now) graph.new.rows.items (members (group_at graph.new.rows.items place))) }
     ensures sum { IfOk result (λ c. c.sum ≡ step_sum (problem_of inst.now) (known_low (problem_of inst.now) (rows_from graph.new.rows.items)) (members (group_at graph.new.rows.items place)) c.split.test) }
     ensures parts { IfOk result (λ c. HasParts (problem_of inst.now) graph.new.numbers (members (group_at graph.new.rows.items place)) c.split) }
-    ensures evaluated { IfOk result (λ c. Contains (splits_at graph.new.kept.items place) c.split) }
+    ensures evaluated { IfOk result (λ c. Contains (splits_at graph.new.nodes.items place) c.split) }
 {
     let mut chosen = least_evaluated(inst, graph, place);
-    while let Some(at) = next_waiting(graph.kept[place].waiting.as_slice(), chosen) {
+    while let Some(at) = next_waiting(graph.nodes[place].waiting.as_slice(), chosen) {
         let split = evaluate(scratch, inst, graph, place, at)?;
         let sum = low_sum(inst, graph, place, split);
         chosen = Some(choose(chosen, split, sum));
@@ -112,7 +112,7 @@ fn up_sum(inst: &Instance, graph: &Graph, place: usize, split: Split) -> Option<
     if pass == u64::MAX || fail == u64::MAX {
         return None;
     }
-    Some(u64::from(inst.costs[split.test as usize]) * graph.kept[place].weight + (pass + fail))
+    Some(u64::from(inst.costs[split.test as usize]) * graph.nodes[place].weight + (pass + fail))
 }
 
 /// The lesser of a number and a value, if there is one.
@@ -129,10 +129,10 @@ fn lesser_of(number: u64, value: Option<u64>) -> u64
 pub(crate) fn least_up(inst: &Instance, graph: &Graph, place: usize) -> u64
     requires known { IsKnown (problem_of inst.now) graph.now }
     requires place { place < length graph.now.rows.items }
-    ensures { result ≡ least_of (min (row_at graph.now.rows.items place).up (greedy_cost (problem_of inst.now) (members (group_at graph.now.rows.items place))) ∷ filter_map (step_value (problem_of inst.now) (known_up (problem_of inst.now) (rows_from graph.now.rows.items)) (members (group_at graph.now.rows.items place))) (map (λ s. s.test) (splits_at graph.now.kept.items place))) }
+    ensures { result ≡ least_of (min (row_at graph.now.rows.items place).up (greedy_cost (problem_of inst.now) (members (group_at graph.now.rows.items place))) ∷ filter_map (step_value (problem_of inst.now) (known_up (problem_of inst.now) (rows_from graph.now.rows.items)) (members (group_at graph.now.rows.items place))) (map (λ s. s.test) (splits_at graph.now.nodes.items place))) }
 {
-    let splits = graph.kept[place].splits.as_slice();
-    let mut least = graph.rows[place].up.min(graph.kept[place].greedy);
+    let splits = graph.nodes[place].splits.as_slice();
+    let mut least = graph.rows[place].up.min(graph.nodes[place].greedy);
     for split in splits {
         least = lesser_of(least, up_sum(inst, graph, place, *split));
     }

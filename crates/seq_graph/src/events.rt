@@ -15,8 +15,8 @@ ghost use Rattle.seq_graph.specs.Steps.{least_test as least_test_of, ClosesBelow
 use crate::choice::{Chosen, least_test, least_up};
 use crate::counts::count_new;
 use crate::graph::{Count, Graph};
-use crate::kept::Kept;
 use crate::look::{look, look_at_all};
+use crate::node::Node;
 use crate::sums::{leave_out, leave_out_waiting};
 use seq_huff::Scratch;
 use seq_inst::{Group, Instance, Row};
@@ -54,41 +54,41 @@ fn narrow(counts: &mut Vec<Count>, number: usize, low: u64, up: u64)
 }
 
 /// Raises a group to the least sum of its tests, and caps it by those that are evaluated.
-pub(crate) fn tighten(inst: &Instance, graph: &mut Graph, place: usize, chosen: Chosen)
+pub(crate) fn revise(inst: &Instance, graph: &mut Graph, place: usize, chosen: Chosen)
     requires known { IsKnown (problem_of inst.now) graph.old }
     requires place { place < length graph.old.rows.items }
     requires test { chosen.split.test ≡ least_test_of (problem_of inst.now) graph.old.rows.items (members (group_at graph.old.rows.items place)) }
     requires sum { chosen.sum ≡ step_sum (problem_of inst.now) (known_low (problem_of inst.now) (rows_from graph.old.rows.items)) (members (group_at graph.old.rows.items place)) chosen.split.test }
-    requires evaluated { Contains (splits_at graph.old.kept.items place) chosen.split }
+    requires evaluated { Contains (splits_at graph.old.nodes.items place) chosen.split }
     ensures known { IsKnown (problem_of inst.now) graph.new }
-    ensures rows { graph.new.rows.items ≡ slice_set graph.old.rows.items place (tightened_row (problem_of inst.now) graph.old.rows.items graph.old.kept.items place) }
+    ensures rows { graph.new.rows.items ≡ slice_set graph.old.rows.items place (tightened_row (problem_of inst.now) graph.old.rows.items graph.old.nodes.items place) }
     ensures narrows { Narrows graph.old.rows.items graph.new.rows.items }
     ensures closes { ClosesBelow (problem_of inst.now) graph.old.rows.items (members (group_at graph.old.rows.items place)) → IsClosedAt graph.new.rows.items place }
 {
-    let low = graph.kept[place].bound.max(chosen.sum);
+    let low = graph.nodes[place].bound.max(chosen.sum);
     let up = least_up(inst, graph, place);
-    let number = graph.kept[place].number as usize;
+    let number = graph.nodes[place].number as usize;
     raise(&mut graph.rows, place, low);
     cap(&mut graph.rows, place, up);
     narrow(&mut graph.counts, number, low, up);
 }
 
 /// Leaves out the tests of a group that can't be of least sum again.
-fn thin(inst: &Instance, graph: &mut Graph, place: usize)
+fn prune(inst: &Instance, graph: &mut Graph, place: usize)
     requires known { IsKnown (problem_of inst.now) graph.old }
     requires place { place < length graph.old.rows.items }
     ensures known { IsKnown (problem_of inst.now) graph.new }
     ensures rows { graph.new.rows.items ≡ graph.old.rows.items }
 {
     let up = graph.rows[place].up;
-    let kept = &mut graph.kept[place];
+    let kept = &mut graph.nodes[place];
     let weight = kept.weight;
     leave_out(inst, graph.counts.as_slice(), weight, up, &mut kept.splits);
     leave_out_waiting(up, &mut kept.waiting);
 }
 
 /// Raises and caps a group by what is known of its parts, and leaves out tests that are of no more use.
-pub fn refresh(
+pub fn back_up(
     scratch: &mut Scratch,
     inst: &Instance,
     graph: &mut Graph,
@@ -102,8 +102,8 @@ pub fn refresh(
 {
     look(scratch, inst, graph, place)?;
     let chosen = least_test(scratch, inst, graph, place)?;
-    tighten(inst, graph, place, chosen);
-    thin(inst, graph, place);
+    revise(inst, graph, place, chosen);
+    prune(inst, graph, place);
     Ok(())
 }
 
@@ -124,7 +124,7 @@ pub(crate) fn add(
 {
     let place = graph.rows.len();
     graph.numbers.reserve(ROOM_FOR_GREEDY)?;
-    let kept = Kept::of(
+    let kept = Node::of(
         scratch,
         &mut graph.numbers,
         inst,
@@ -141,12 +141,12 @@ pub(crate) fn add(
         low: 0,
         up: kept.greedy,
     })?;
-    graph.kept.push(kept)?;
+    graph.nodes.push(kept)?;
     graph.looks.push(place + 1)?;
     Ok(())
 }
 
-/// Gives back the room of the tests that were left out. Most go at the first refresh, so that this pays
+/// Gives back the room of the tests that were left out. Most go at the first revision, so that this pays
 /// when a group is entered, and not later.
 fn give_back(inst: &Instance, graph: &mut Graph, place: usize)
     requires known { IsKnown (problem_of inst.now) graph.old }
@@ -155,7 +155,7 @@ fn give_back(inst: &Instance, graph: &mut Graph, place: usize)
     ensures rows { graph.new.rows.items ≡ graph.old.rows.items }
 {
     let _ = inst;
-    let kept = &mut graph.kept[place];
+    let kept = &mut graph.nodes[place];
     kept.splits.shrink_to_fit();
     kept.waiting.shrink_to_fit();
 }
@@ -178,7 +178,7 @@ pub fn enter(
     let place = graph.rows.len();
     add(alloc, scratch, inst, graph, group)?;
     look_at_all(scratch, inst, graph, place)?;
-    refresh(scratch, inst, graph, place)?;
+    back_up(scratch, inst, graph, place)?;
     give_back(inst, graph, place);
     Ok(())
 }

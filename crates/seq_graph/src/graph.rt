@@ -5,7 +5,7 @@ ghost use Rattle.std.specs.Prelude.{◌≡◌, [], IfOk};
 ghost use Rattle.seq_inst.specs.Instances.{problem_of};
 ghost use Rattle.seq_graph.specs.Known.{IsKnown};
 
-use crate::kept::Kept;
+use crate::node::Node;
 use crate::numbers::Numbers;
 use seq_inst::{Instance, Row};
 use std::alloc::{AllocError, Global};
@@ -26,7 +26,7 @@ pub struct Graph {
     /// The entered groups in the order of entering.
     pub rows: Vec<Row>,
     /// By place.
-    pub kept: Vec<Kept>,
+    pub nodes: Vec<Node>,
     /// By number.
     pub counts: Vec<Count>,
     /// How many rows there were when the tests of a group that wait were last looked through, by place.
@@ -43,7 +43,7 @@ impl Graph {
         Ok(Graph {
             numbers,
             rows: Vec::new(alloc),
-            kept: Vec::new(alloc),
+            nodes: Vec::new(alloc),
             counts: Vec::new(alloc),
             looks: Vec::new(alloc),
         })

@@ -2,13 +2,13 @@
 //!
 //! Each group that is met has a number, with its bound and, once it is asked for, greedy's test and cost
 //! (`Numbers`); beside the numbers stands what each group counts for a low and for an up. Each group that is
-//! entered has a row, and what is kept of it (`Kept`): the tests that split it are listed once. Each waits
+//! entered has a row, and what is kept of it (`Node`): the tests that split it are listed once. Each waits
 //! with a number that is at most its sum, and is evaluated where the least sum isn't certain without it, or
 //! where both of its parts have an up. Those whose sums pass the group's up are left out for good. So a sum
 //! costs two look-ups, and nothing is worked out twice.
 //!
 //! An engine enters groups (`enter`), goes down by tests of least sum (`next_step`), and raises and caps the
-//! groups that it came through from what is known of their parts (`refresh`: AO*'s revision from below
+//! groups that it came through from what is known of their parts (`back_up`: AO*'s revision from below
 //! upwards). Rows that were found elsewhere make a graph too (`Graph::of_rows`). At the end `settle` gives
 //! each row the low and the value that the entered groups give it together. Whatever is kept saves work, and
 //! changes no result. Here too stands the measure by which a walk ends.
@@ -19,9 +19,10 @@ mod counts;
 mod events;
 mod graph;
 mod greedy;
-mod kept;
+mod laws;
 mod listing;
 mod look;
+mod node;
 mod numbers;
 mod settling;
 mod steps;
@@ -29,11 +30,11 @@ mod sums;
 #[cfg(test)]
 mod tests;
 mod waiting;
-mod words;
 
-pub use events::{enter, refresh};
+pub use events::{back_up, enter};
 pub use graph::{Count, Graph};
-pub use kept::{Kept, Split, Waiting};
+pub use laws::turns_move;
+pub use node::{Node, Split, Waiting};
 pub use numbers::Numbers;
 pub use settling::settle;
 pub use steps::{Step, next_step};

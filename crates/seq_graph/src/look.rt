@@ -7,7 +7,7 @@ ghost use Rattle.seq_theory.specs.Graph.{step_value};
 ghost use Rattle.seq_theory.specs.Rows.{known_up};
 ghost use Rattle.seq_inst.specs.Members.{members};
 ghost use Rattle.seq_inst.specs.Instances.{problem_of};
-ghost use Rattle.seq_graph.specs.declared.kept.Split.{Split};
+ghost use Rattle.seq_graph.specs.declared.node.Split.{Split};
 ghost use Rattle.seq_core.specs.RowsOf.{rows_of as rows_from};
 ghost use Rattle.seq_graph.specs.Known.{IsKnown, splits_at, waiting_at};
 ghost use Rattle.seq_graph.specs.Looks.{NoneIsValued};
@@ -46,9 +46,9 @@ fn have_ups(inst: &Instance, graph: &Graph, group: &Group, test: u32) -> bool
 fn pass_part(inst: &Instance, graph: &Graph, place: usize, at: usize) -> Group
     requires known { IsKnown (problem_of inst.now) graph.now }
     requires place { place < length graph.now.rows.items }
-    requires there { at < length (waiting_at graph.now.kept.items place) }
+    requires there { at < length (waiting_at graph.now.nodes.items place) }
 {
-    let test = graph.kept[place].waiting[at].test;
+    let test = graph.nodes[place].waiting[at].test;
     part(inst, &graph.rows[place].group, test, Answer::Pass)
 }
 
@@ -72,13 +72,13 @@ pub(crate) fn look_at_all(
     requires place { place < length graph.old.rows.items }
     ensures known { IfOk result (λ _. IsKnown (problem_of inst.now) graph.new) }
     ensures rows { IfOk result (λ _. graph.new.rows.items ≡ graph.old.rows.items) }
-    ensures valued { IfOk result (λ _. NoneIsValued (problem_of inst.now) graph.new.rows.items graph.new.kept.items place) }
-    ensures listed { IfOk result (λ _. (s : Split) → Contains (splits_at graph.old.kept.items place) s → Contains (splits_at graph.new.kept.items place) s) }
+    ensures valued { IfOk result (λ _. NoneIsValued (problem_of inst.now) graph.new.rows.items graph.new.nodes.items place) }
+    ensures listed { IfOk result (λ _. (s : Split) → Contains (splits_at graph.old.nodes.items place) s → Contains (splits_at graph.new.nodes.items place) s) }
 {
     let group = graph.rows[place].group;
     let mut at = 0;
-    while at < graph.kept[place].waiting.len() {
-        let test = graph.kept[place].waiting[at].test;
+    while at < graph.nodes[place].waiting.len() {
+        let test = graph.nodes[place].waiting[at].test;
         if have_ups(inst, graph, &group, test) {
             evaluate(scratch, inst, graph, place, at)?;
         } else {
@@ -103,7 +103,7 @@ fn evaluate_those(
     ensures rows { IfOk result (λ _. graph.new.rows.items ≡ graph.old.rows.items) }
 {
     let mut at = 0;
-    while at < graph.kept[place].waiting.len() {
+    while at < graph.nodes[place].waiting.len() {
         let pass = pass_part(inst, graph, place, at);
         if pass == *one || pass == *other {
             evaluate(scratch, inst, graph, place, at)?;
@@ -153,7 +153,7 @@ fn last_look(graph: &Graph, place: usize) -> usize {
 fn note_look(graph: &mut Graph, place: usize)
     ensures numbers { graph.new.numbers ≡ graph.old.numbers }
     ensures rows { graph.new.rows ≡ graph.old.rows }
-    ensures kept { graph.new.kept ≡ graph.old.kept }
+    ensures kept { graph.new.nodes ≡ graph.old.nodes }
     ensures counts { graph.new.counts ≡ graph.old.counts }
 {
     let many = graph.rows.len();

@@ -17,10 +17,9 @@ ghost use Rattle.seq_graph.specs.GreedyChoice.{AreEstimates};
 ghost use Rattle.seq_graph.specs.Numbered.{capacity, HasNumber, HasGreedy, IsGreedyOf, AreNumbers, KeepsNumbers};
 
 use crate::greedy::{Estimates, Greedy, estimates_of};
-use crate::words::know_words;
 use indexmap::IndexMap;
 use seq_huff::{Order, Scratch, ordered_bound};
-use seq_inst::{Group, Instance, is_leaf};
+use seq_inst::{Group, Instance, group_stands, is_leaf};
 use std::alloc::{AllocError, Global};
 use std::marker::Model;
 
@@ -148,7 +147,7 @@ impl Numbers {
         ensures found { IfSome result (HasNumber self.now (members group.now)) }
         ensures none { IfNone result (is_entered self.now.groups (members group.now) ≡ false) }
     {
-        know_words(group);
+        group_stands(group);
         match self.bounds.get_index_of(&group.0) {
             Some(index) => Some(index as u32),
             None => None,
@@ -183,7 +182,7 @@ impl Numbers {
         ensures number { result ≡ length self.old.groups }
         ensures added { self.new ≡ record self.old { groups = self.old.groups ++ members group.now ∷ []; bounds = self.old.bounds ++ bound ∷ []; greedy = self.old.greedy ++ None ∷ []; room = self.old.room - 1 } }
     {
-        know_words(group);
+        group_stands(group);
         let number = self.len();
         let _ = self.bounds.insert(group.0, bound);
         let _ = self.greedy.push(None);

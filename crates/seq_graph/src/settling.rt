@@ -11,7 +11,7 @@ ghost use Rattle.seq_graph.specs.Known.{IsKnown, row_at};
 ghost use Rattle.seq_graph.specs.Settling.{AreSettledBelow};
 
 use crate::choice::least_test;
-use crate::events::tighten;
+use crate::events::revise;
 use crate::graph::Graph;
 use crate::look::look_at_all;
 use seq_core::smallest_first;
@@ -34,7 +34,7 @@ fn settle_row(
 {
     let chosen = least_test(scratch, inst, graph, place)?;
     look_at_all(scratch, inst, graph, place)?;
-    tighten(inst, graph, place, chosen);
+    revise(inst, graph, place, chosen);
     Ok(())
 }
 

@@ -4,7 +4,7 @@ ghost use Rattle.std.specs.Prelude.{◌≡◌, nat_le, All, filter};
 ghost use Rattle.seq_graph.specs.Sums.{counted_sum, IsCountable};
 
 use crate::graph::Count;
-use crate::kept::{Split, Waiting};
+use crate::node::{Split, Waiting};
 use seq_inst::Instance;
 
 /// The sum of a test over a group of this weight, and what its parts count.

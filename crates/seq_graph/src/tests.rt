@@ -3,7 +3,7 @@ ghost use Rattle.std.specs.Prelude.{IfOk};
 ghost use Rattle.seq_inst.specs.Instances.{problem_of};
 ghost use Rattle.seq_graph.specs.Numbered.{AreNumbers};
 
-use crate::{Kept, Numbers, Split};
+use crate::{Node, Numbers, Split};
 use seq_huff::Scratch;
 use seq_inst::{Answer, Group, Instance, Strategy, part, root};
 use std::alloc::{AllocError, Global};
@@ -45,7 +45,7 @@ fn what_is_kept_of_two_faults(rt: HostRuntime) -> Result<(), Fail> {
     let all = root(&inst);
     let passing = part(&inst, &all, 0, Answer::Pass);
     let mut numbers = no_numbers(alloc, &inst)?;
-    let mut kept = Kept::of(
+    let mut kept = Node::of(
         &mut scratch,
         &mut numbers,
         &inst,

@@ -2,14 +2,14 @@
 //! test that is evaluated next is the one of least number, until all numbers are above the least sum.
 ghost use Rattle.std.specs.Prelude.{◌≡◌, ◌<◌, ◌++◌, ◌∷◌, length, take, Contains, IfOk, IfSome, IfNone, []};
 ghost use Rattle.seq_inst.specs.Instances.{problem_of};
-ghost use Rattle.seq_graph.specs.declared.kept.Split.{Split};
+ghost use Rattle.seq_graph.specs.declared.node.Split.{Split};
 ghost use Rattle.seq_graph.specs.Known.{IsKnown, splits_at, waiting_at};
 ghost use Rattle.seq_graph.specs.Choice.{IsLeastWaiting, IsCertain};
 
 use crate::choice::Chosen;
 use crate::counts::count_new;
 use crate::graph::Graph;
-use crate::kept::{Split, Waiting};
+use crate::node::{Split, Waiting};
 use seq_huff::Scratch;
 use seq_inst::Instance;
 use std::alloc::AllocError;
@@ -53,17 +53,17 @@ pub(crate) fn evaluate(
 ) -> Result<Split, AllocError>
     requires known { IsKnown (problem_of inst.now) graph.old }
     requires place { place < length graph.old.rows.items }
-    requires there { at < length (waiting_at graph.old.kept.items place) }
+    requires there { at < length (waiting_at graph.old.nodes.items place) }
     ensures known { IfOk result (λ _. IsKnown (problem_of inst.now) graph.new) }
     ensures rows { IfOk result (λ _. graph.new.rows.items ≡ graph.old.rows.items) }
-    ensures last { IfOk result (λ s. splits_at graph.new.kept.items place ≡ splits_at graph.old.kept.items place ++ s ∷ []) }
-    ensures before { IfOk result (λ _. take at (waiting_at graph.new.kept.items place) ≡ take at (waiting_at graph.old.kept.items place)) }
-    ensures listed { IfOk result (λ _. (s : Split) → Contains (splits_at graph.old.kept.items place) s → Contains (splits_at graph.new.kept.items place) s) }
-    ensures fewer { IfOk result (λ _. length (waiting_at graph.new.kept.items place) < length (waiting_at graph.old.kept.items place)) }
+    ensures last { IfOk result (λ s. splits_at graph.new.nodes.items place ≡ splits_at graph.old.nodes.items place ++ s ∷ []) }
+    ensures before { IfOk result (λ _. take at (waiting_at graph.new.nodes.items place) ≡ take at (waiting_at graph.old.nodes.items place)) }
+    ensures listed { IfOk result (λ _. (s : Split) → Contains (splits_at graph.old.nodes.items place) s → Contains (splits_at graph.new.nodes.items place) s) }
+    ensures fewer { IfOk result (λ _. length (waiting_at graph.new.nodes.items place) < length (waiting_at graph.old.nodes.items place)) }
 {
     let group = graph.rows[place].group;
-    graph.kept[place].evaluate(scratch, &mut graph.numbers, inst, &group, at)?;
+    graph.nodes[place].evaluate(scratch, &mut graph.numbers, inst, &group, at)?;
     count_new(inst, &graph.numbers, &mut graph.counts)?;
-    let splits = graph.kept[place].splits.as_slice();
+    let splits = graph.nodes[place].splits.as_slice();
     Ok(splits[splits.len() - 1])
 }

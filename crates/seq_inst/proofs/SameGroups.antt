@@ -50,7 +50,7 @@ same_lists (x ∷ xs) (y ∷ ys) e h =
     let first : x ≡ y = h 0 (omega arith) in
     ap (λ n. n ∷ xs) first ∙ ap (λ l. y ∷ l) (same_lists xs ys (omega arith) (λ k lt. h (suc k) (omega arith)))
 
-pub same_members : SameWordsHold
+pub same_members : (g h : Group) → IsWords g → IsWords h → members g ≡ members h → g.0 ≡ h.0
 same_members g h wg wh e =
     let lg = wg.eight in
     let lh = wh.eight in
@@ -81,3 +81,6 @@ words-tell g h wg wh = equal (bytes_eq g.0 h.0) (same_group (members g) (members
     equal true y h k = sym (h refl)
     equal false true h k = k refl
     equal false false h k = refl
+
+pub same_words_hold : SameWordsHold
+same_words_hold g h wg wh = record { same = same_members g h wg wh; test = words-tell g h wg wh }

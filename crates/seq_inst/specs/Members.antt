@@ -2,6 +2,8 @@
 use Rattle.std.specs.Prelude.{◌≡◌, ℕ, ◌/◌, ◌%◌, ◌^◌, ◌<◌, ◌≤◌, Bool, true, false, nat_eq, List, length, slice_index, Option, Some, None}
 use Rattle.std.specs.Int.{bit_at}
 use Rattle.seq_inst.specs.declared.group.Group.{Group}
+use Rattle.std.specs.Str.{bytes_eq}
+use Rattle.seq_theory.specs.Graph.{same_group}
 use Rattle.seq_theory.specs.Below.{passing_below}
 
 -- whether the class is in the group: bit class % 64 of word class / 64
@@ -32,9 +34,13 @@ pub record IsWords (g : Group) : Type 0 where
   pub eight : length g.0 ≡ 8
   pub each : (k : ℕ) → k < 8 → slice_index g.0 k < 2 ^ 64
 
--- groups with the same classes have the same words
+-- groups with the same classes have the same words, and a test of the words tells whether the classes are the same
+pub record WordsTell (g h : Group) : Type 0 where
+  pub same : members g ≡ members h → g.0 ≡ h.0
+  pub test : bytes_eq g.0 h.0 ≡ same_group (members g) (members h)
+
 abbrev pub SameWordsHold : Type 0
-SameWordsHold = (g h : Group) → IsWords g → IsWords h → members g ≡ members h → g.0 ≡ h.0
+SameWordsHold = (g h : Group) → IsWords g → IsWords h → WordsTell g h
 
 -- where a walk over the classes of a group stands: at a class, or past the last
 abbrev pub reached : Option ℕ → ℕ

@@ -24,7 +24,7 @@ pub fn group_stands(group: &Group)
     know_each(&group.0);
 }
 
-/// Groups with the same classes have the same words. Does nothing.
+/// Groups with the same classes have the same words, and a test of the words tells it. Does nothing.
 pub fn same_words_hold()
     ensures { SameWordsHold }
 {}

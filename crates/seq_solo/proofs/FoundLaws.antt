@@ -8,8 +8,7 @@ use Rattle.seq_theory.specs.Graph.{is_entered, low, val, IsWanted, root, IsReal}
 use Rattle.seq_theory.specs.Rows.{no_value, groups_of, IsSound}
 use Rattle.seq_theory.proofs.LowLaws.{low-end, low-le-least}
 use Rattle.seq_theory.proofs.ValLaws.{val-end, val-entered, least-le-val}
-use Rattle.seq_theory.proofs.RowLaws.{none-sound}
-use Rattle.seq_huff.proofs.LeastBounds.{weighed}
+use Rattle.seq_theory.proofs.RowLaws.{none-sound, wanted-within}
 use Rattle.seq_inst.specs.declared.group.Group.{Group}
 use Rattle.seq_inst.specs.declared.instance.Instance.{Instance}
 use Rattle.seq_inst.specs.declared.outcome.Row.{Row}
@@ -18,12 +17,10 @@ use Rattle.seq_inst.specs.Instances.{problem_of}
 use Rattle.seq_core.specs.RowsOf.{row_of as row_from, rows_of as rows_from}
 use Rattle.seq_core.specs.Settled.{groups_in}
 use Rattle.seq_core.specs.Entered.{MayStop}
-use Rattle.seq_graph.proofs.RowLaws.{row-among, row-entered}
+use Rattle.seq_solo.proofs.RowLaws.{length-Narrows, group-Narrows, row-among, row-entered}
 use Rattle.seq_graph.specs.Known.{AreRows, no_row, row_at, group_at, Narrows, IsClosedAt}
 use Rattle.seq_graph.specs.Walks.{HasMoved, IsStopped, HasTurned}
 use Rattle.seq_solo.specs.Found.{BeginsWithAll, IsSolved, IsFull, HasEnded}
-use Rattle.seq_graph.proofs.KnownLaws.{row-real, row-within}
-use Rattle.seq_graph.proofs.EventLaws.{length-Narrows, group-Narrows}
 
 -- a walk under way: the rows are known, the first is that of all classes, and there are no more than the limit allows
 pub record IsWalking (p : Problem) (limit : ℕ) (rows : List Row) : Type 0 where
@@ -84,12 +81,12 @@ closed-enough inst rows known k lt closed =
     let p = problem_of inst in
     let g = members (group_at rows k) in
     let entered = groups_of (rows_from rows) in
-    let real = row-real p rows known k lt in
-    let within = row-within p rows known k lt in
+    let real = known.sound.real _ (row-among rows k no_row lt) in
+    let within = wanted-within p g real.wanted in
     let value = val-entered p entered g real.goals (row-entered rows k no_row lt) in
     let below = known.sound.lows (row_from (row_at rows k)) (row-among rows k no_row lt) in
     let above = known.sound.ups (row_from (row_at rows k)) (row-among rows k no_row lt) _ value in
-    let left = low-le-least p entered g (weighed inst) inst.valid.told within in
+    let left = low-le-least p entered g inst.stands.weighed inst.valid.told within in
     let right = least-le-val p entered g _ inst.valid.told within value in
     value ∙ ap (λ n. Some n) (omega arith)
 

@@ -5,7 +5,7 @@ ghost use Rattle.seq_inst.specs.Instances.{problem_of};
 ghost use Rattle.seq_graph.specs.Known.{IsKnown, row_at};
 ghost use Rattle.seq_graph.specs.Walks.{HasTurned};
 
-use seq_graph::{Graph, Step, enter, next_step, refresh};
+use seq_graph::{Graph, Step, back_up, enter, next_step, turns_move};
 use seq_huff::Scratch;
 use seq_inst::{Group, Instance};
 use std::alloc::{AllocError, Global};
@@ -28,24 +28,25 @@ pub(crate) fn turn(
     ensures known { IfOk result (λ _. IsKnown (problem_of inst.now) graph.new) }
     ensures turned { IfOk result (HasTurned (problem_of inst.now) limit graph.old.rows.items graph.new.rows.items) }
 {
+    turns_move();
     match next_step(scratch, inst, graph, place)? {
         Step::Enter { group } => {
             if graph.rows.len() >= limit as usize {
                 return Ok(Some(group));
             }
             enter(alloc, scratch, inst, graph, &group)?;
-            refresh(scratch, inst, graph, place)?;
+            back_up(scratch, inst, graph, place)?;
             Ok(None)
         }
         Step::Down { place: next } => {
             if let Some(group) = turn(alloc, scratch, inst, limit, graph, next)? {
                 return Ok(Some(group));
             }
-            refresh(scratch, inst, graph, place)?;
+            back_up(scratch, inst, graph, place)?;
             Ok(None)
         }
         Step::Close => {
-            refresh(scratch, inst, graph, place)?;
+            back_up(scratch, inst, graph, place)?;
             Ok(None)
         }
     }

@@ -3,7 +3,6 @@ use Rattle.std.proofs.Common.{◌≡◌, ◌≢◌, inl, inr, ℕ, zero, suc, �
 use Rattle.std.specs.Prelude.{Bool, true, false, ◌||◌, Some, slice_get}
 use Rattle.std.proofs.lemmas.Bool.{cases_Bool}
 use mathlib.Core.List.{map-append}
-use Rattle.seq_theory.specs.Problem.{IsSized, IsWeighed}
 use Rattle.seq_theory.specs.Tree.{IsLeast}
 use Rattle.seq_theory.specs.Graph.{same_group, is_entered}
 use Rattle.seq_theory.specs.Rows.{IsRow, groups_of, IsSound, Event, IsAllowed, after, change_at}

@@ -1,9 +1,9 @@
 -- What the tests ask on the star of four faults: its two groups are real, and what a seat knows of them allows the raises and the
 -- cap. The numbers are computed.
-use Rattle.std.proofs.Common.{◌≡◌, ◌≢◌, ◌≤◌, ◌<◌, ℕ, List, [], ◌∷◌, refl, sym, ap, ◌∙◌, arith, subst, lit<, length, get_or}
-use Rattle.std.specs.Prelude.{true, false, map}
+use Rattle.std.proofs.Common.{◌≡◌, ◌≢◌, ◌≤◌, ℕ, List, [], ◌∷◌, refl, sym, ap, ◌∙◌, arith, subst, lit<, get_or}
+use Rattle.std.specs.Prelude.{true}
 use Rattle.std.specs.List.{filter_map}
-use Rattle.seq_theory.specs.Problem.{Problem, IsWeighed, AreTold, all_classes, is_end, splits, splitting, pass_part}
+use Rattle.seq_theory.specs.Problem.{Problem, IsWeighed, AreTold, all_classes, splitting, pass_part}
 use Rattle.seq_theory.specs.Bound.{bound, step_sum}
 use Rattle.seq_theory.specs.Huffman.{huff}
 use Rattle.seq_theory.specs.Below.{passing_below}
@@ -14,7 +14,6 @@ use Rattle.seq_theory.specs.Rows.{Row as TheoryRow}
 use Rattle.seq_theory.proofs.WantedLaws.{one_step-wanted}
 use Rattle.seq_theory.proofs.ValLaws.{least_of-first}
 use Rattle.seq_inst.specs.declared.instance.Instance.{Instance}
-use Rattle.seq_inst.specs.declared.group.Group.{Group}
 use Rattle.seq_inst.specs.Instances.{problem_of}
 use Rattle.seq_words.specs.declared.view.View.{View}
 use Rattle.seq_words.specs.RowsOf.{classes_of}
@@ -56,13 +55,13 @@ passing_real inst is =
     subst (λ (q : Problem). IsReal q (classes_of passing_bits)) (sym is) (subst (IsReal star) (sym passing_is) record { wanted = wanted; goals = refl })
 
 pub may_first : (inst : Instance) → problem_of inst ≡ star → MayPublish (opener inst 2) 0 (record { 0 = all_bits })
-may_first inst is = record { next = refl; idle = refl; room = lit< tt; real = star_real inst is; new = λ other h. absurd (omega arith) }
+may_first inst is = record { next = refl; room = lit< tt; real = star_real inst is; new = λ other h. absurd (omega arith) }
 
 -- what the scribe knows after one group and after two, and a worker that has learnt both
-abbrev scribe_one : Instance → View
+abbrev pub scribe_one : Instance → View
 scribe_one inst = published 0 all_bits (opener inst 2)
 
-abbrev scribe_two : Instance → View
+abbrev pub scribe_two : Instance → View
 scribe_two inst = published 1 passing_bits (scribe_one inst)
 
 abbrev pub worker_two : Instance → View
@@ -77,7 +76,6 @@ apart e = second-apart _ _ (sym all_is ∙ (e ∙ passing_is)) refl refl
 pub may_second : (inst : Instance) → problem_of inst ≡ star → MayPublish (scribe_one inst) 1 (record { 0 = passing_bits })
 may_second inst is = record {
   next = refl;
-  idle = refl;
   room = lit< tt;
   real = passing_real inst is;
   new = λ other h. let e : 0 ≡ other = omega arith in subst (λ z. classes_of (known (scribe_one inst) z).bits ≢ classes_of passing_bits) e apart;

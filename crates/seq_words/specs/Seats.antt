@@ -35,11 +35,14 @@ pub record IsOf (words : Wording) (seat : Sitting) : Type 0 where
   pub limit : seat.view.limit ≡ words.limit
   pub sized : length seat.view.known ≡ words.limit
 
--- a scribe that writes nothing may publish the group at the place: the place is how many it knows, and below the limit; the
--- group is real, and none of those that it knows
+-- it is a scribe's view, and so many places are published, which it knows
+abbrev pub HasPlaces : ℕ → View → Type 0
+HasPlaces n v = v.role ≡ Scribe n
+
+-- the scribe may publish the group at the place: the place is how many it knows, and below the limit; the group is real, and
+-- none of those that it knows
 pub record MayPublish (v : View) (place : ℕ) (group : Group) : Type 0 where
-  pub next : v.role ≡ Scribe place
-  pub idle : v.stored ≡ 0
+  pub next : HasPlaces place v
   pub room : place < v.limit
   pub real : IsReal (problem_in v.told) (members group)
   pub new : (other : ℕ) → other < place → classes_of (known v other).bits ≢ members group

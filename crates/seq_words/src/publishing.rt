@@ -4,7 +4,7 @@ ghost use Rattle.std.specs.Prelude.{◌≡◌, ◌≢◌, ◌≤◌, ◌<◌, �
 ghost use Rattle.seq_words.specs.Layout.{bits_at, state_at};
 ghost use Rattle.seq_words.specs.Knowledge.{HasGroup, Covers, known, unknown};
 ghost use Rattle.seq_words.specs.Plays.{begins, writes, publishes, published};
-ghost use Rattle.seq_words.specs.Seats.{IsOf, MayPublish, sees};
+ghost use Rattle.seq_words.specs.Seats.{IsOf, HasPlaces, MayPublish, sees};
 ghost use Rattle.seq_words.specs.declared.view.Role.TheVariants.{Scribe as Scribes};
 
 use crate::layout::{bits_word, state_word};
@@ -25,7 +25,7 @@ fn begin<D: Drafting>(
 )
     requires group { group.now.0 ≡ D.group }
     requires table { (seat.old.table_id ≡ table.now.table_id) × (bits_at place 0 < table.now.table_id.words) }
-    requires may { MayPublish seat.old.me.0 place group.now }
+    requires may { MayPublish seat.old.me.0 place group.now × (seat.old.me.0.stored ≡ 0) }
     ensures { (seat.new.table_id ≡ seat.old.table_id) × (seat.new.me ≡ (begins group.now.0 seat.old.me.0, seat.old.me.1)) }
 {
     group_stands(group);
@@ -68,7 +68,7 @@ fn write_group(
     group: &Group,
 )
     requires table { (seat.old.table_id ≡ table.now.table_id) × (state_at place < table.now.table_id.words) }
-    requires may { MayPublish seat.old.me.0 place group.now }
+    requires may { MayPublish seat.old.me.0 place group.now × (seat.old.me.0.stored ≡ 0) }
     ensures fresh { known seat.old.me.0 place ≡ unknown }
     ensures learns { (seat.new.table_id ≡ seat.old.table_id) × (seat.new.me ≡ (published place group.now.0 seat.old.me.0, seat.old.me.1)) }
 {
@@ -85,6 +85,7 @@ pub fn publish(words: &Words, scribe: &mut Scribe, place: u32, group: &Group)
     requires scribe { IsOf words.now scribe.old }
     requires may { MayPublish scribe.old.view place group.now }
     ensures of { IsOf words.now scribe.new }
+    ensures count { HasPlaces (place + 1) scribe.new.view }
     ensures knows { HasGroup place group.now.0 scribe.new.view }
     ensures covers { Covers scribe.new.view scribe.old.view }
     ensures others { (other : ℕ) → other ≢ place → known scribe.new.view other ≡ known scribe.old.view other }

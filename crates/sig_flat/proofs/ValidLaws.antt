@@ -19,7 +19,7 @@ use Rattle.sig_types.specs.declared.refusals.Code.{Code}
 use Rattle.sig_types.specs.declared.refusals.Place.{Place}
 use Rattle.sig_types.specs.declared.refusals.Kind.TheVariants.{Part as PartKind, Use as UseKind, Point as PointKind}
 use Rattle.sig_types.specs.declared.refusals.Key.TheVariants.{Name, Ports, Switches}
-use Rattle.sig_types.specs.Breaches.{breaches, each, each_from, breach_if, has, has_use, has_port, block_of_use, block_names, known_modes, block_breaches, repeated_names, part_breaches, use_breaches, test_breaches, mode_breaches, link_breaches, end_breaches, end_of_item, scope_of, names_of, named, in_block, in_item, or_normal}
+use Rattle.sig_types.specs.Breaches.{breaches, each, each_from, breach_if, has, has_use, has_port, block_of_use, block_names, known_modes, block_breaches, contents_breaches, count_breaches, repeated_at_top, indexed_breaches, repeats, repeated_tests, part_breaches, use_breaches, test_breaches, mode_breaches, link_breaches, end_breaches, end_of_item, scope_of, names_of, named, in_block, in_item, or_normal}
 use Rattle.sig_flat.specs.Instances.{no_block, block_named}
 use Rattle.sig_flat.specs.Resolved.{block_at}
 use Rattle.sig_flat.specs.Places.{own_names}
@@ -28,22 +28,22 @@ use Rattle.sig_flat.specs.Known.{use_names, EndIsKnown, ModeIsKnown, IsKnownBloc
 use Rattle.sig_flat.proofs.NameLaws.{any-place, use-name, port-of-named}
 
 -- two lists that are empty together
-both-empty : {X : Type 0} (xs ys : List X) → xs ++ ys ≡ [] → (xs ≡ []) × (ys ≡ [])
+pub both-empty : {X : Type 0} (xs ys : List X) → xs ++ ys ≡ [] → (xs ≡ []) × (ys ≡ [])
 both-empty [] ys e = (refl, e)
 both-empty (x ∷ xs) ys e = absurd (let f : ⊥ = cc in f)
 
-no-breach : (b : Bool) (code : Code) (place : Place) → breach_if b code place ≡ [] → b ≡ false
+pub no-breach : (b : Bool) (code : Code) (place : Place) → breach_if b code place ≡ [] → b ≡ false
 no-breach true code place e = absurd (let f : ⊥ = cc in f)
 no-breach false code place e = refl
 
-each-at : {X Y : Type 0} (f : ℕ → X → List Y) (n : ℕ) (xs : List X) → each_from n f xs ≡ [] → (i : ℕ) (d : X) → i < length xs → f (n + i) (get_or xs i d) ≡ []
+pub each-at : {X Y : Type 0} (f : ℕ → X → List Y) (n : ℕ) (xs : List X) → each_from n f xs ≡ [] → (i : ℕ) (d : X) → i < length xs → f (n + i) (get_or xs i d) ≡ []
 each-at f n [] e i d lt = absurd (let g : ⊥ = omega arith in g)
 each-at f n (x ∷ xs) e zero d lt = let z : n + 0 ≡ n = omega arith in rw z ((both-empty (f n x) (each_from (suc n) f xs) e).0)
 each-at f n (x ∷ xs) e (suc i) d lt =
     let s : n + suc i ≡ suc n + i = omega arith in
     rw s (each-at f (suc n) xs ((both-empty (f n x) (each_from (suc n) f xs) e).1) i d (omega arith))
 
-each-of : {X Y : Type 0} (f : ℕ → X → List Y) (xs : List X) (x : X) → each f xs ≡ [] → Contains xs x → (i : ℕ) × (f i x ≡ [])
+pub each-of : {X Y : Type 0} (f : ℕ → X → List Y) (xs : List X) (x : X) → each f xs ≡ [] → Contains xs x → (i : ℕ) × (f i x ≡ [])
 each-of f xs x e (i, lt, at) = (0 + i, subst (λ y. f (0 + i) y ≡ []) at (each-at f 0 xs e i x lt))
 
 not-false : (v : Bool) → not v ≡ false → v ≡ true
@@ -68,15 +68,15 @@ mode-known model place None e = tt
 mode-known model place (Some mode) e = any-place (bytes_eq mode) (known_modes model) (not-false (has (known_modes model) mode) (no-breach (not (has (known_modes model) mode)) _ _ e))
 
 -- the names of a scope
-names-each : {X : Type 0} (name : X → List ℕ) (at : ℕ → Place) (n : ℕ) (xs : List X) → names_of (each_from n (λ k x. named (name x) (at k)) xs) ≡ map name xs
+pub names-each : {X : Type 0} (name : X → List ℕ) (at : ℕ → Place) (n : ℕ) (xs : List X) → names_of (each_from n (λ k x. named (name x) (at k)) xs) ≡ map name xs
 names-each name at n [] = refl
 names-each name at n (x ∷ xs) = ap (λ l. name x ∷ l) (names-each name at (suc n) xs)
 
-map-id : (xs : List (List ℕ)) → map (λ x. x) xs ≡ xs
+pub map-id : (xs : List (List ℕ)) → map (λ x. x) xs ≡ xs
 map-id [] = refl
 map-id (x ∷ xs) = ap (λ l. x ∷ l) (map-id xs)
 
-scope-names : (b : ℕ) (block : Block) → names_of (scope_of b block) ≡ block.ports ++ block.switches ++ map (λ (p : Part). p.name) block.parts ++ map (λ (u : Used). u.name) block.uses ++ map (λ (p : Point). p.name) block.points
+pub scope-names : (b : ℕ) (block : Block) → names_of (scope_of b block) ≡ block.ports ++ block.switches ++ map (λ (p : Part). p.name) block.parts ++ map (λ (u : Used). u.name) block.uses ++ map (λ (p : Point). p.name) block.points
 scope-names b block =
     simp (map-append, names-each (λ (n : List ℕ). n) (λ k. in_block b Ports (Some k)) 0 block.ports, names-each (λ (n : List ℕ). n) (λ k. in_block b Switches (Some k)) 0 block.switches, names-each (λ (p : Part). p.name) (λ k. in_item b PartKind k (Some Name) None) 0 block.parts, names-each (λ (u : Used). u.name) (λ k. in_item b UseKind k (Some Name) None) 0 block.uses, names-each (λ (p : Point). p.name) (λ k. in_item b PointKind k (Some Name) None) 0 block.points, map-id)
 
@@ -135,9 +135,10 @@ test-mode model b p t test e = mode-known model _ test.mode (both-empty _ _ e).1
 
 block-known : (model : Model) (b : ℕ) (block : Block) → known_modes model ≡ model.modes → block_breaches model b block ≡ [] → IsKnownBlock model b block
 block-known model b block modes e =
-    let last = both-empty (repeated_names b block ++ each (part_breaches model b) block.parts ++ each (use_breaches model b) block.uses ++ each (λ p (point : Point). each (test_breaches model b p) point.tests) block.points) (each (link_breaches model b block) block.links) e in
-    let third = both-empty (repeated_names b block ++ each (part_breaches model b) block.parts ++ each (use_breaches model b) block.uses) (each (λ p (point : Point). each (test_breaches model b p) point.tests) block.points) last.0 in
-    let second = both-empty (repeated_names b block ++ each (part_breaches model b) block.parts) (each (use_breaches model b) block.uses) third.0 in
+    let whole = both-empty (repeats (scope_of b block)) (contents_breaches model b block) e in
+    let last = both-empty (repeated_tests b block.points ++ each (part_breaches model b) block.parts ++ each (use_breaches model b) block.uses ++ each (λ p (point : Point). each (test_breaches model b p) point.tests) block.points) (each (link_breaches model b block) block.links) whole.1 in
+    let third = both-empty (repeated_tests b block.points ++ each (part_breaches model b) block.parts ++ each (use_breaches model b) block.uses) (each (λ p (point : Point). each (test_breaches model b p) point.tests) block.points) last.0 in
+    let second = both-empty (repeated_tests b block.points ++ each (part_breaches model b) block.parts) (each (use_breaches model b) block.uses) third.0 in
     record {
       uses = λ used i. let at = each-of (use_breaches model b) block.uses used second.1 i in use-known model b at.0 used at.1;
       tests = λ point i test j.
@@ -158,17 +159,15 @@ modes-kept (m ∷ rest) h = refl
 -- a model without breach
 pub known : (model : Model) → breaches model ≡ [] → 1 ≤ length model.modes → IsKnown model
 known model e some =
-    let top = both-empty _ _ e in
-    let each_block = both-empty _ _ top.0 in
-    let names = both-empty _ _ each_block.0 in
-    let modes = both-empty _ _ names.0 in
-    let signals = both-empty _ _ modes.0 in
-    let blocks = both-empty _ _ signals.0 in
+    let parts = both-empty (count_breaches model ++ repeated_at_top model) (indexed_breaches model) e in
+    let counts = both-empty (count_breaches model) (repeated_at_top model) parts.0 in
+    let blocks = both-empty _ _ counts.0 in
     let two = both-empty _ _ blocks.0 in
+    let indexed = both-empty _ _ parts.1 in
     record {
       signals = few 64 (length model.signals) _ _ two.0;
       modes = few 32 (length model.modes) _ _ two.1;
       blocks = few 1024 (length model.blocks) _ _ blocks.1;
-      block = λ b lt. block-known model b (block_at model.blocks b) (modes-kept model.modes some) (let z : 0 + b ≡ b = omega arith in subst (λ n. block_breaches model n (block_at model.blocks b) ≡ []) z (each-at (block_breaches model) 0 model.blocks each_block.1 b no_block lt));
-      top = any-place (bytes_eq model.top) (block_names model) (not-false (has (block_names model) model.top) (no-breach (not (has (block_names model) model.top)) _ _ top.1));
+      block = λ b lt. block-known model b (block_at model.blocks b) (modes-kept model.modes some) (let z : 0 + b ≡ b = omega arith in subst (λ n. block_breaches model n (block_at model.blocks b) ≡ []) z (each-at (block_breaches model) 0 model.blocks indexed.0 b no_block lt));
+      top = any-place (bytes_eq model.top) (block_names model) (not-false (has (block_names model) model.top) (no-breach (not (has (block_names model) model.top)) _ _ indexed.1));
     }

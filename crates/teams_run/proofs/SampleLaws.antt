@@ -1,9 +1,13 @@
 -- A chain unfolds within all limits, and has few ambiguity groups. What holds of each length is computed.
-use Rattle.std.proofs.Common.{◌≡◌, ◌∙◌, ℕ, ◌+◌, ◌<◌, ◌≤◌, Bool, true, false, List, [], ◌∷◌, length, filter, Option, Some, None, refl, ap, sym, arith}
+use Rattle.std.proofs.Common.{◌≡◌, ◌∙◌, ℕ, ◌+◌, ◌<◌, ◌≤◌, Bool, true, false, List, [], ◌∷◌, length, filter, get_or, Option, Some, None, refl, ap, sym, arith}
 use Rattle.std.specs.Prelude.{nat_le, ◌&&◌, is_none}
 use Rattle.std.specs.List.{range_with_len, list_all, AllZip}
 use Rattle.std.specs.Fmt.{digits}
+use Rattle.std.proofs.lemmas.List.FromFn.{get_or-range_with_len, length-range_with_len}
+use Rattle.std.proofs.lemmas.List.Folds.{list_all_at}
 use Rattle.std.proofs.lemmas.Bool.{and_parts, leb-true}
+use Rattle.std.proofs.lemmas.Slice.Zip.{AllZip-long}
+use Rattle.std.specs.Prelude.{cond, nat_eq}
 use Rattle.seq_theory.specs.Problem.{count_up}
 use Rattle.seq_theory.specs.States.{System, firsts, is_first}
 use Rattle.seq_theory.proofs.BelowLaws.{length-count_up}
@@ -14,8 +18,21 @@ use Rattle.sig_flat.specs.Instances.{faults}
 use Rattle.sig_flat.specs.Flats.{IsFlatOf}
 use Rattle.sig_matrix.specs.declared.matrix.Matrix.{Matrix}
 use Rattle.sig_matrix.specs.Detection.{IsMatrixOf, system_of, state_count}
-use Rattle.sig_sample.proofs.NameLaws.{each_below}
 use Rattle.teams_run.specs.Samples.{chain_model}
+
+-- what is computed for all numbers below n holds of each
+each_below : (p : ℕ → Bool) (n i : ℕ) → list_all p (range_with_len 0 n) ≡ true → i < n → p i ≡ true
+each_below p n i all below = go (p i) refl
+  where
+    true_false : true ≡ false → ⊥
+    true_false e = cc
+
+    go : (b : Bool) → p i ≡ b → p i ≡ true
+    go true e = e
+    go false e =
+        let there : get_or (range_with_len 0 n) i 0 ≡ i = omega (arith, get_or-range_with_len 0 n i 0 below) in
+        let none = list_all_at p (range_with_len 0 n) i 0 (rw (length-range_with_len 0 n) below) (ap p there ∙ e) in
+        absurd (true_false (sym all ∙ none))
 
 none_there : (o : Option Refusal) → is_none o ≡ true → o ≡ None
 none_there None e = refl
@@ -27,3 +44,29 @@ fits n few = each_below (λ k. is_none (flat_refusal (chain_model k)) && nat_le 
 
 pub chain_fits : (n : ℕ) → n ≤ 100 → flat_refusal (chain_model n) ≡ None
 chain_fits n few = none_there _ ((and_parts (is_none (flat_refusal (chain_model n))) _ (fits n few)).0)
+
+few_faults : (n : ℕ) → n ≤ 100 → length (faults (chain_model n)) ≤ 100
+few_faults n few = leb-true _ 100 ((and_parts (is_none (flat_refusal (chain_model n))) _ (fits n few)).1)
+
+filter_below : (p : ℕ → Bool) (xs : List ℕ) → length (filter p xs) ≤ length xs
+filter_below p [] = omega arith
+filter_below p (x ∷ xs) = go (p x) (filter_below p xs)
+  where
+    go : (b : Bool) → length (filter p xs) ≤ length xs → length (cond b (x ∷ filter p xs) (filter p xs)) ≤ length (x ∷ xs)
+    go true h = omega (arith, h)
+    go false h = omega (arith, h)
+
+at_most_one : (b : Bool) → cond b 0 1 ≤ 1
+at_most_one true = omega arith
+at_most_one false = omega arith
+
+-- there are at most as many groups as states, and these are the good state and the faults
+pub few_groups : (n : ℕ) (flat : Flat) (matrix : Matrix) → n ≤ 100 → IsFlatOf (chain_model n) flat → IsMatrixOf flat None matrix → length (firsts (system_of matrix)) ≤ 512
+few_groups n flat matrix few flat_is matrix_is =
+    let groups = filter_below (is_first (system_of matrix)) (count_up 0 (state_count matrix)) in
+    let states = length-count_up 0 (state_count matrix) in
+    let rows : length matrix.faults ≡ length flat.faults = AllZip-long _ flat.faults matrix.faults matrix_is.faults in
+    let faults_are : length flat.faults ≡ length (faults (chain_model n)) = AllZip-long _ (faults (chain_model n)) flat.faults flat_is.faults in
+    let one = at_most_one (nat_eq matrix.good 0) in
+    let at_most : length (faults (chain_model n)) ≤ 100 = few_faults n few in
+    omega (arith, groups, states, rows, faults_are, one, at_most)

@@ -8,6 +8,7 @@ use sig_types::Text;
 use std::alloc::{AllocError, Global};
 use std::str;
 use std::test::Fail;
+use teams_words::{Action, Plan};
 
 fn words_of(alloc: Global, texts: &[&str]) -> Result<Vec<String>, AllocError> {
     let mut words = Vec::new(alloc);
@@ -136,6 +137,7 @@ fn commands(rt: HostRuntime) -> Result<(), Fail> {
     let alloc = rt.alloc();
     for line in [
         "solve m.toml --workers=0 --groups=00005 --mode=normal",
+        "--mode normal solve --groups 5 m.toml",
         "matrix m.toml --mode=normal",
         "figures m.toml",
     ] {
@@ -156,10 +158,11 @@ fn commands(rt: HostRuntime) -> Result<(), Fail> {
         "solve m.toml --groups=000005",
         "solve m.toml --groups=5 --groups=5",
         "solve m.toml --cert=c",
-        "solve m.toml --mode=normal --workers=0",
-        "solve m.toml --mode=normal --mode=normal",
+        "solve m.toml --mode=normal --mode normal",
         "matrix m.toml --workers=0",
         "check m.toml",
+        "sample 0",
+        "sample 3 --mode=normal",
     ] {
         let status = ended(alloc, line)?;
         assert_eq!(rt; status.number(), 2);
@@ -528,5 +531,38 @@ fn greatest_numbers(rt: HostRuntime) -> Result<(), Fail> {
             "\nweight 101000000\nresult optimal\ncost 680000000000000\nlow 680000000000000\ngap 0\nlimit 4000\ngroups 1\n"
         )
     );
+    Ok(())
+}
+
+/// The chains of one and of three parts, and one of twenty with as many groups as it has runs of classes.
+#[test]
+fn samples(rt: HostRuntime) -> Result<(), Fail> {
+    let alloc = rt.alloc();
+    for (parts, summary) in [("1", ONE_PART), ("3", THREE_PARTS), ("003", THREE_PARTS)] {
+        let (status, wrote) = ran(alloc, &["sample", parts], b"")?;
+        assert_eq!(rt; wrote.as_slice(), summary.as_bytes());
+        assert_eq!(rt; status.number(), 0);
+    }
+    let (status, _wrote) = ran(alloc, &["sample", "20", "--groups=210"], b"")?;
+    assert_eq!(rt; status.number(), 0);
+    Ok(())
+}
+
+/// The longest chain with few groups is summed up twice in the same way.
+#[test]
+fn a_long_sample(rt: HostRuntime) -> Result<(), Fail> {
+    let alloc = rt.alloc();
+    let words = ["sample", "100", "--groups", "20"];
+    let (status, wrote) = ran(alloc, &words, b"")?;
+    let (_status, again) = ran(alloc, &words, b"")?;
+    let counts = "teams sample 1\nparts 100\nstates 101\nclasses 101\ntests 100\n";
+    assert!(rt; wrote.as_slice().starts_with(counts.as_bytes()));
+    assert_eq!(rt; again.as_slice(), wrote.as_slice());
+    if status.number() == 3 {
+        let summary = str::from_utf8(wrote.as_slice())?;
+        assert!(rt; summary.contains("\ngroups 20\nend\n"));
+    } else {
+        assert_eq!(rt; status.number(), 0);
+    }
     Ok(())
 }

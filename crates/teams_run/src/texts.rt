@@ -561,3 +561,29 @@ blind X/v
 equal Y/t X/t
 end
 "#;
+
+/// The summaries of the chains of one and of three parts. One part of weight 8 beside a good state of 10 is told by one
+/// test of cost 4.
+pub const ONE_PART: &str = "teams sample 1
+parts 1
+states 2
+classes 2
+tests 1
+result optimal
+cost 72
+low 72
+groups 1
+end
+";
+
+pub const THREE_PARTS: &str = "teams sample 1
+parts 3
+states 4
+classes 4
+tests 3
+result optimal
+cost 131
+low 131
+groups 2
+end
+";

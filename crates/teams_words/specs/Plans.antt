@@ -76,7 +76,7 @@ abbrev pub most_workers : ℕ
 most_workers = 16
 
 abbrev pub usual_workers : ℕ
-usual_workers = 0
+usual_workers = 4
 
 abbrev pub most_groups : ℕ
 most_groups = 32768

@@ -138,7 +138,7 @@ fn plan_for(alloc: Global, chosen: &Chosen) -> Result<Plan, PlanFault>
     if !takes(action, chosen) {
         return Err(PlanFault::Usage);
     }
-    let workers = count_in(chosen.workers, 0, 16, 0);
+    let workers = count_in(chosen.workers, 0, 16, 4);
     let groups = count_in(chosen.groups, 1, 32_768, 4000);
     match (workers, groups) {
         (Some(workers), Some(groups)) => plan_with(alloc, action, chosen, workers, groups),
@@ -176,7 +176,8 @@ fn plan_by_clap(alloc: Global, words: &[String]) -> Result<Plan, PlanFault>
 /// most once, as `--NAME=VALUE` or as `--NAME VALUE`, where VALUE isn't empty and as a word of its own doesn't begin
 /// with `-`. `solve` takes `--workers`, `--groups` and `--mode`; `check` takes `--cert`, which has to be there, and
 /// `--mode`; `matrix` and `figures` take `--mode`; `sample` takes `--groups`, and its MODEL is a number of 1 to 100
-/// parts. Workers are 0 to 16, groups 1 to 32,768, each in one to five decimal digits.
+/// parts. Workers are 0 to 16 and 4 where nothing is said of them, groups 1 to 32,768 and 4,000 where nothing is said,
+/// each in one to five decimal digits.
 pub fn plan_of(alloc: Global, words: &[String]) -> Result<Plan, PlanFault>
     ensures proper { IfOk result IsProper }
     ensures found { IfOk result (λ plan. plan_of (map string_bytes words.now) ≡ Some plan) }

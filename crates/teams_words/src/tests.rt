@@ -60,18 +60,18 @@ fn plan_in(alloc: Global, line: &str) -> Result<String, AllocError> {
 }
 
 /// A command line and its plan.
-const PLANS: &str = "solve m => solve m none 0 4000 none
+const PLANS: &str = "solve m => solve m none 4 4000 none
 solve m --workers 0 => solve m none 0 4000 none
 --groups=5 solve --mode xy m --workers=016 => solve m none 16 5 xy
-solve m --groups 00001 => solve m none 0 1 none
-solve m --groups=32768 => solve m none 0 32768 none
-check m --cert c => check m c 0 4000 none
---mode=-x check --cert=a=b m => check m a=b 0 4000 -x
-matrix m --mode=\u{20ac} => matrix m none 0 4000 \u{20ac}
-figures h\u{e9} => figures h\u{e9} none 0 4000 none
-sample 3 => sample 3 none 0 4000 none
-sample --groups 20 00100 => sample 00100 none 0 20 none
-solve solve => solve solve none 0 4000 none";
+solve m --groups 00001 => solve m none 4 1 none
+solve m --groups=32768 => solve m none 4 32768 none
+check m --cert c => check m c 4 4000 none
+--mode=-x check --cert=a=b m => check m a=b 4 4000 -x
+matrix m --mode=\u{20ac} => matrix m none 4 4000 \u{20ac}
+figures h\u{e9} => figures h\u{e9} none 4 4000 none
+sample 3 => sample 3 none 4 4000 none
+sample --groups 20 00100 => sample 00100 none 4 20 none
+solve solve => solve solve none 4 4000 none";
 
 #[test]
 fn words_give_plans(rt: HostRuntime) -> Result<(), Fail> {

@@ -113,17 +113,23 @@ impl<'a> Scope<'a> {
         self.names.contains(name)
     }
 
-    /// Whether the name is that of a switch.
+    /// Whether the name is that of a switch. Looks nothing up in a block without switches, as most are.
     pub fn has_switch(&self, name: &Name) -> bool
         ensures { result ≡ has self.now.block.switches name.now }
     {
+        if self.block.switches.len() == 0 {
+            return false;
+        }
         self.switches.contains(name)
     }
 
-    /// The block of the use of this name, where it is a use.
+    /// The block of the use of this name, where it is a use. Looks nothing up in a block without uses.
     pub fn used_block(&self, name: &Name) -> Option<Name>
         ensures { result ≡ used_block self.now.block.uses name.now }
     {
+        if self.block.uses.len() == 0 {
+            return None;
+        }
         self.uses.get(name).copied()
     }
 }

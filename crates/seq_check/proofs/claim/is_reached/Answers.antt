@@ -1,19 +1,20 @@
-use Rattle.std.proofs.Common.{◌≡◌, ◌≤◌, ◌∙◌, ap, arith}
+use Rattle.std.proofs.Common.{◌≡◌, ◌≤◌, ◌+◌, ◌*◌, ◌∙◌, ap, arith}
 use Rattle.seq_theory.specs.Problem.{pass_part, fail_part}
 use Rattle.seq_theory.specs.Bound.{bound, step_sum}
 use Rattle.seq_theory.specs.Claims.{claim_of}
 use Rattle.seq_check.specs.GroupLooks.{claims_of}
-use Rattle.seq_check.proofs.LeastSums.{bounds_reach}
+use Rattle.std.proofs.lemmas.List.{get_or_default}
+use Rattle.std.specs.Prelude.{nat_le}
+use Rattle.seq_check.proofs.LeastSums.{bounds_reach, counted_sum}
 use Rattle.seq_inst.specs.Instances.{problem_of}
 use Rattle.seq_inst.specs.Members.{members}
-use Rattle.seq_inst.proofs.WithinLaws.{within-pass, within-fail}
 use Rattle.seq_check.proofs.claim.is_reached.Goals as goal
 
 pub counted-pass-requires-clause-within : goal.counted-pass-requires-clause-within
-counted-pass-requires-clause-within c = within-pass (problem_of c.args.inst.now) (members c.args.group.now) (members c.part-pass_part.result) c.args.test c.requires.within c.part-pass_part.ensures.classes
+counted-pass-requires-clause-within c = c.part-pass_part.ensures.within c.requires.within
 
 pub counted-fail-requires-clause-within : goal.counted-fail-requires-clause-within
-counted-fail-requires-clause-within c = within-fail (problem_of c.args.inst.now) (members c.args.group.now) (members c.part-fail_part.result) c.args.test c.requires.within c.part-fail_part.ensures.classes
+counted-fail-requires-clause-within c = c.part-fail_part.ensures.within c.requires.within
 
 pub returns-then-low-least_sum : goal.returns-then-low-least_sum
 returns-then-low-least_sum c = λ lines are.
@@ -26,3 +27,12 @@ returns-then-low-least_sum c = λ lines are.
     let reached = c.if-low-least_sum.true in
     let le : c.args.low ≤ step_sum p (bound p) group c.args.test = omega arith in
     bounds_reach p claims group c.args.test c.args.low c.listed-pass_low.result c.listed-fail_low.result pass fail c.if-is_none.ensures c.if-is_none-2.ensures le
+
+pub returns : goal.returns
+returns c = λ lines are.
+    let p = problem_of c.args.inst.now in
+    let cost : c.from.result ≡ p.cost c.args.test = c.from.ensures ∙ c.index.ensures ∙ get_or_default c.args.inst.now.costs.items c.args.test c.index.result.now 0 (let n = c.args.inst.now.costs.ok.0 in let there = c.requires.there in omega arith) in
+    ap (λ n. nat_le n (c.from.result * c.from-2.result + (c.from-4.result + c.from-5.result))) c.from-3.ensures
+    ∙ counted_sum p (claims_of lines) (members c.args.group.now) (members c.part-pass_part.result) (members c.part-fail_part.result) c.args.test c.args.low c.from.result c.from-2.result c.from-4.result c.from-5.result c.listed-pass_low.result c.listed-fail_low.result
+    c.part-pass_part.ensures.classes c.part-fail_part.ensures.classes (c.listed-pass_low.ensures lines are) (c.listed-fail_low.ensures lines are)
+    (c.from-4.ensures ∙ c.counted-pass.ensures) (c.from-5.ensures ∙ c.counted-fail.ensures) cost (c.from-2.ensures ∙ c.requires.weight)

@@ -2,7 +2,6 @@ use Rattle.std.proofs.Common.{◌≡◌, get_or, ap, sym, ◌∙◌, arith}
 use Rattle.std.proofs.lemmas.List.{get_or_default}
 use Rattle.seq_inst.specs.Instances.{problem_of}
 use Rattle.seq_inst.specs.Members.{members}
-use Rattle.seq_inst.proofs.WithinLaws.{light}
 use Rattle.seq_cert.specs.declared.report.TreeLine.{TreeLine}
 use Rattle.seq_check.specs.TreeLooks.{left_after}
 use Rattle.seq_check.specs.Walked.{waiting}
@@ -28,7 +27,7 @@ returns-in_ok-push-in-Ask-2-clause-small c =
     let there = ask_there p (members c.args.group.now) c.args.line c.in-Ask.test c.in-Ask.is c.requires.settles in
     let most = ((inst.valid).costs c.in-Ask.test there).1 in
     let cost : c.from.result ≡ get_or inst.costs.items c.in-Ask.test 0 = c.from.ensures ∙ c.index.ensures ∙ get_or_default inst.costs.items c.in-Ask.test c.index.result.now 0 there in
-    let heavy = light inst c.args.group.now c.requires.within in
+    let heavy = inst.stands.light c.args.group.now c.requires.within in
     let weight = c.weight_of.ensures in
     let wide = c.from-in-Ask.ensures in
     small_cost c.from.result c.from-in-Ask.result (omega arith) (omega arith)

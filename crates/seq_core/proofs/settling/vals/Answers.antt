@@ -1,7 +1,7 @@
-use Rattle.std.proofs.Common.{◌∙◌}
-use Rattle.seq_inst.specs.Instances.{problem_of}
+use Rattle.std.proofs.Common.{◌∙◌, ap, Some}
+use Rattle.std.specs.Prelude.{map}
 use Rattle.seq_core.proofs.SettleSteps.{ups-settled}
 use Rattle.seq_core.proofs.settling.vals.Goals as goal
 
 pub returns : goal.returns
-returns c = c.in_ok-ups.ensures ∙ ups-settled (problem_of c.args.inst.now) c.args.rows.now _ (c.rows.ensures ∙ c.in_ok-table.ensures)
+returns c = ap (map (λ n. Some n)) c.in_ok-ups.ensures ∙ ups-settled c.args.inst.now c.args.rows.now _ c.requires (c.rows.ensures.rows ∙ c.in_ok-core.ensures)

@@ -14,10 +14,10 @@ step-second-requires-clause-real g c = two_part c.in_ok-inst.inst (members c.roo
 
 pub lows-requires : goal.lows-requires
 lows-requires g c =
-    let e : c.rows.result.now ≡ c.step-nowhere.new.self.rows = c.rows.ensures in
+    let e : c.rows.result.now ≡ c.step-nowhere.new.self.rows = c.rows.ensures.rows in
     subst (AreGroups (problem_of c.in_ok-inst.inst)) (sym e) (sound_are_groups (problem_of c.in_ok-inst.inst) c.step-nowhere.new.self.room c.step-nowhere.new.self.rows c.step-nowhere.ensures.of.sound)
 
 pub vals-requires : goal.vals-requires
 vals-requires g c =
-    let e : c.rows-2.result.now ≡ c.step-nowhere.new.self.rows = c.rows-2.ensures in
+    let e : c.rows-2.result.now ≡ c.step-nowhere.new.self.rows = c.rows-2.ensures.rows in
     subst (AreGroups (problem_of c.in_ok-inst.inst)) (sym e) (sound_are_groups (problem_of c.in_ok-inst.inst) c.step-nowhere.new.self.room c.step-nowhere.new.self.rows c.step-nowhere.ensures.of.sound)

@@ -12,7 +12,12 @@ step-first-requires-clause-real g c = star_root c.in_ok-inst.inst (members c.roo
 pub step-second-requires-clause-real : goal.step-second-requires-clause-real
 step-second-requires-clause-real g c = star_part c.in_ok-inst.inst (members c.root-all.result) (members c.part-passing.result) c.in_ok-inst.ensures c.root-all.ensures.classes c.part-passing.ensures.classes
 
-pub settle-requires-clause-groups : goal.settle-requires-clause-groups
-settle-requires-clause-groups g c =
-    let e : c.rows-rows.result.now ≡ c.step-lowest.new.self.rows = c.rows-rows.ensures in
+pub lows-requires : goal.lows-requires
+lows-requires g c =
+    let e : c.rows-rows.result.now ≡ c.step-lowest.new.self.rows = c.rows-rows.ensures.rows in
+    subst (AreGroups (problem_of c.in_ok-inst.inst)) (sym e) (sound_are_groups (problem_of c.in_ok-inst.inst) c.step-lowest.new.self.room c.step-lowest.new.self.rows c.step-lowest.ensures.of.sound)
+
+pub vals-requires : goal.vals-requires
+vals-requires g c =
+    let e : c.rows-rows.result.now ≡ c.step-lowest.new.self.rows = c.rows-rows.ensures.rows in
     subst (AreGroups (problem_of c.in_ok-inst.inst)) (sym e) (sound_are_groups (problem_of c.in_ok-inst.inst) c.step-lowest.new.self.room c.step-lowest.new.self.rows c.step-lowest.ensures.of.sound)

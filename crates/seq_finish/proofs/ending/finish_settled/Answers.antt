@@ -5,8 +5,6 @@ use Rattle.seq_theory.specs.Rows.{AreDistinct}
 use Rattle.seq_inst.specs.Members.{members}
 use Rattle.seq_inst.specs.Instances.{problem_of}
 use Rattle.seq_inst.specs.Trees.{tree_of}
-use Rattle.seq_huff.proofs.LeastBounds.{weighed}
-use Rattle.seq_inst.proofs.RootLaws.{within-all}
 use Rattle.seq_core.specs.Tables.{numbered}
 use Rattle.seq_core.specs.Settled.{groups_in, settled_rows}
 use Rattle.seq_finish.specs.Outcomes.{IsSettled}
@@ -41,7 +39,7 @@ strategy_of-requires-clause-settled c =
     subst (λ l. All (IsSettled p (groups_in l)) l) (sym same) (settled-all p c.args.limit c.args.rows.items c.requires.sound)
 
 pub strategy_of-requires-clause-within : goal.strategy_of-requires-clause-within
-strategy_of-requires-clause-within c = within-all (problem_of c.args.inst.now) _ c.root-all.ensures.classes
+strategy_of-requires-clause-within c = c.root-all.ensures.within
 
 pub strategy_of-requires-clause-valued : goal.strategy_of-requires-clause-valued
 strategy_of-requires-clause-valued c =
@@ -119,4 +117,4 @@ returns-clause-short c =
     (outcome-shape c.args.inst.now (groups_in rows) (tree_of c.in_ok-strategy.strategy) c.requires.root (c.in_ok-strategy.ensures.strategy ∙ ap (λ g. strat p g (members c.root-all.result)) same2 ∙ ap (strat p (groups_in rows)) c.root-all.ensures.classes)).short
 
 pub returns-clause-stands : goal.returns-clause-stands
-returns-clause-stands c = λ least l. outcomes_hold (problem_of c.args.inst.now) c.args.limit least _ (weighed c.args.inst.now) c.args.inst.now.valid.told (returns-clause-right c) l
+returns-clause-stands c = λ least l. outcomes_hold (problem_of c.args.inst.now) c.args.limit least _ c.args.inst.now.stands.weighed c.args.inst.now.valid.told (returns-clause-right c) l

@@ -3,7 +3,7 @@ use Rattle.std.proofs.lemmas.List.{get_or_read}
 use Rattle.seq_inst.specs.Members.{members}
 use Rattle.seq_inst.specs.Instances.{problem_of}
 use Rattle.seq_inst.proofs.WithinLaws.{light, within-pass, within-fail}
-use Rattle.seq_huff.proofs.BoundFits.{product-le}
+use Rattle.seq_theory.proofs.BelowLaws.{product-le}
 use Rattle.seq_core.specs.Settled.{groups_in}
 use Rattle.seq_finish.proofs.StratLaws.{value-small}
 use Rattle.seq_finish.proofs.strategy.reaches.Goals as goal
@@ -25,16 +25,16 @@ pub overflow_add-result : goal.overflow_add-result
 overflow_add-result c =
     let p = problem_of c.args.inst.now in
     let xs = members c.args.group.now in
-    let a = value-small c.args.inst.now (groups_in c.args.rows.now) c.part-pass_part.result c.in-Some-Some.pass (within-pass p xs (members c.part-pass_part.result) c.args.test c.requires.within c.part-pass_part.ensures.classes) (sym c.value_of.ensures ∙ c.in-Some-Some.is-0) in
-    let b = value-small c.args.inst.now (groups_in c.args.rows.now) c.part-fail_part.result c.in-Some-Some.fail (within-fail p xs (members c.part-fail_part.result) c.args.test c.requires.within c.part-fail_part.ensures.classes) (sym c.value_of-2.ensures ∙ c.in-Some-Some.is-1) in
+    let a = value-small c.args.inst.now (groups_in c.args.rows.now) c.part-pass_part.result c.in-Some-Some.pass (c.part-pass_part.ensures.within c.requires.within) (sym c.value_of.ensures ∙ c.in-Some-Some.is-0) in
+    let b = value-small c.args.inst.now (groups_in c.args.rows.now) c.part-fail_part.result c.in-Some-Some.fail (c.part-fail_part.ensures.within c.requires.within) (sym c.value_of-2.ensures ∙ c.in-Some-Some.is-1) in
     omega arith
 
 pub overflow_add-result-in-Some-Some : goal.overflow_add-result-in-Some-Some
 overflow_add-result-in-Some-Some c =
     let p = problem_of c.args.inst.now in
     let xs = members c.args.group.now in
-    let a = value-small c.args.inst.now (groups_in c.args.rows.now) c.part-pass_part.result c.in-Some-Some.pass (within-pass p xs (members c.part-pass_part.result) c.args.test c.requires.within c.part-pass_part.ensures.classes) (sym c.value_of.ensures ∙ c.in-Some-Some.is-0) in
-    let b = value-small c.args.inst.now (groups_in c.args.rows.now) c.part-fail_part.result c.in-Some-Some.fail (within-fail p xs (members c.part-fail_part.result) c.args.test c.requires.within c.part-fail_part.ensures.classes) (sym c.value_of-2.ensures ∙ c.in-Some-Some.is-1) in
+    let a = value-small c.args.inst.now (groups_in c.args.rows.now) c.part-pass_part.result c.in-Some-Some.pass (c.part-pass_part.ensures.within c.requires.within) (sym c.value_of.ensures ∙ c.in-Some-Some.is-0) in
+    let b = value-small c.args.inst.now (groups_in c.args.rows.now) c.part-fail_part.result c.in-Some-Some.fail (c.part-fail_part.ensures.within c.requires.within) (sym c.value_of-2.ensures ∙ c.in-Some-Some.is-1) in
     let n = c.args.inst.now.costs.ok.0 in
     let t = c.requires.there in
     let there : c.args.test < p.tests = omega arith in

@@ -4,7 +4,7 @@ use Rattle.seq_theory.specs.Bound.{step_sum}
 use Rattle.seq_theory.specs.Rows.{known_low}
 use Rattle.seq_inst.specs.Members.{members}
 use Rattle.seq_inst.specs.Instances.{problem_of}
-use Rattle.seq_graph.specs.declared.kept.Split.{Split}
+use Rattle.seq_graph.specs.declared.node.Split.{Split}
 use Rattle.seq_core.specs.RowsOf.{rows_of as rows_from}
 use Rattle.seq_graph.specs.Known.{group_at, row_at}
 use Rattle.seq_graph.specs.Choice.{IsChoice}
@@ -17,14 +17,14 @@ pub low_sum-sum-requires-clause-parts : goal.low_sum-sum-requires-clause-parts
 low_sum-sum-requires-clause-parts c =
     let s = c.args.graph.now in
     let p = problem_of c.args.inst.now in
-    let kept = kept-read p s.numbers s.rows.items s.kept.items s.counts.items c.requires.known c.args.place c.index.result.now c.requires.place c.index.ensures in
+    let kept = kept-read p s.numbers s.rows.items s.nodes.items s.counts.items c.requires.known c.args.place c.index.result.now c.requires.place c.index.ensures in
     (split-at p s.numbers s.rows.items (row_at s.rows.items c.args.place) c.index.result.now c.as_slice-splits.result.now kept c.as_slice-splits.ensures.value c.loop-split.split-index _ c.loop-split-test.true).parts
 
 pub low_sum-sum-requires-clause-there : goal.low_sum-sum-requires-clause-there
 low_sum-sum-requires-clause-there c =
     let s = c.args.graph.now in
     let p = problem_of c.args.inst.now in
-    let kept = kept-read p s.numbers s.rows.items s.kept.items s.counts.items c.requires.known c.args.place c.index.result.now c.requires.place c.index.ensures in
+    let kept = kept-read p s.numbers s.rows.items s.nodes.items s.counts.items c.requires.known c.args.place c.index.result.now c.requires.place c.index.ensures in
     (split-at p s.numbers s.rows.items (row_at s.rows.items c.args.place) c.index.result.now c.as_slice-splits.result.now kept c.as_slice-splits.ensures.value c.loop-split.split-index _ c.loop-split-test.true).there
 
 pub loop-split-preserved : goal.loop-split-preserved
@@ -46,5 +46,5 @@ returns c =
     let f = step_sum p (known_low p (rows_from s.rows.items)) (members (group_at s.rows.items c.args.place)) in
     let long = c.requires.known.kept_are.as_many in
     let place = c.requires.place in
-    let read = splits-read s.kept.items c.args.place c.index.result.now (omega arith) c.index.ensures in
+    let read = splits-read s.nodes.items c.args.place c.index.result.now (omega arith) c.index.ensures in
     subst (λ l. IsChoice f l c.loop-split.chosen) (take_all c.loop-split.split-index xs c.loop-split-test.false ∙ c.as_slice-splits.ensures.value ∙ sym read) c.loop-split.invariant

@@ -12,8 +12,8 @@ abbrev pub invariant-loop-at : goal.invariant-loop-at
 invariant-loop-at l = record {
   known : IsKnown (problem_of l.inst) l.graph;
   rows : l.graph.rows.items ≡ l.initial.graph.rows.items;
-  chosen : IsChoice (step_sum (problem_of l.inst) (known_low (problem_of l.inst) (rows_from l.graph.rows.items)) (members (group_at l.graph.rows.items l.place))) (splits_at l.graph.kept.items l.place) l.chosen;
+  chosen : IsChoice (step_sum (problem_of l.inst) (known_low (problem_of l.inst) (rows_from l.graph.rows.items)) (members (group_at l.graph.rows.items l.place))) (splits_at l.graph.nodes.items l.place) l.chosen;
 }
 
 abbrev pub decreases-loop-at : goal.decreases-loop-at
-decreases-loop-at l = length (waiting_at l.graph.kept.items l.place)
+decreases-loop-at l = length (waiting_at l.graph.nodes.items l.place)

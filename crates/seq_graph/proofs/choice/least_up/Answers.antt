@@ -7,7 +7,7 @@ use Rattle.seq_theory.specs.Graph.{step_value}
 use Rattle.seq_theory.specs.Rows.{known_up}
 use Rattle.seq_inst.specs.Members.{members}
 use Rattle.seq_inst.specs.Instances.{problem_of}
-use Rattle.seq_graph.specs.declared.kept.Split.{Split}
+use Rattle.seq_graph.specs.declared.node.Split.{Split}
 use Rattle.seq_core.specs.RowsOf.{rows_of as rows_from}
 use Rattle.seq_graph.specs.Known.{group_at, row_at, no_row}
 use Rattle.seq_graph.proofs.ChoiceLaws.{least_value-more}
@@ -22,7 +22,7 @@ loop-split-init c =
     let s = c.args.graph.now in
     let p = problem_of c.args.inst.now in
     let up = get_or_read s.rows.items c.args.place c.index-2.result.now c.requires.place c.index-2.ensures no_row in
-    let kept = kept-read p s.numbers s.rows.items s.kept.items s.counts.items c.requires.known c.args.place c.index-3.result.now c.requires.place c.index-3.ensures in
+    let kept = kept-read p s.numbers s.rows.items s.nodes.items s.counts.items c.requires.known c.args.place c.index-3.result.now c.requires.place c.index-3.ensures in
     c.min-least.ensures ∙ ap (λ (r : Row). min r.up c.index-3.result.now.greedy) up ∙ ap (min (row_at s.rows.items c.args.place).up) kept.greedy
 
 pub up_sum-requires-clause-parts : goal.up_sum-requires-clause-parts
@@ -30,7 +30,7 @@ up_sum-requires-clause-parts c =
     let s = c.args.graph.now in
     let p = problem_of c.args.inst.now in
     let g = members (group_at s.rows.items c.args.place) in
-    let kept = kept-read p s.numbers s.rows.items s.kept.items s.counts.items c.requires.known c.args.place c.index.result.now c.requires.place c.index.ensures in
+    let kept = kept-read p s.numbers s.rows.items s.nodes.items s.counts.items c.requires.known c.args.place c.index.result.now c.requires.place c.index.ensures in
     (split-at p s.numbers s.rows.items (row_at s.rows.items c.args.place) c.index.result.now c.as_slice-splits.result.now kept c.as_slice-splits.ensures.value c.loop-split.split-index _ c.loop-split-test.true).parts
 
 pub up_sum-requires-clause-there : goal.up_sum-requires-clause-there
@@ -38,7 +38,7 @@ up_sum-requires-clause-there c =
     let s = c.args.graph.now in
     let p = problem_of c.args.inst.now in
     let g = members (group_at s.rows.items c.args.place) in
-    let kept = kept-read p s.numbers s.rows.items s.kept.items s.counts.items c.requires.known c.args.place c.index.result.now c.requires.place c.index.ensures in
+    let kept = kept-read p s.numbers s.rows.items s.nodes.items s.counts.items c.requires.known c.args.place c.index.result.now c.requires.place c.index.ensures in
     (split-at p s.numbers s.rows.items (row_at s.rows.items c.args.place) c.index.result.now c.as_slice-splits.result.now kept c.as_slice-splits.ensures.value c.loop-split.split-index _ c.loop-split-test.true).there
 
 pub loop-split-preserved : goal.loop-split-preserved
@@ -46,7 +46,7 @@ loop-split-preserved c =
     let s = c.args.graph.now in
     let p = problem_of c.args.inst.now in
     let g = members (group_at s.rows.items c.args.place) in
-    let kept = kept-read p s.numbers s.rows.items s.kept.items s.counts.items c.requires.known c.args.place c.index.result.now c.requires.place c.index.ensures in
+    let kept = kept-read p s.numbers s.rows.items s.nodes.items s.counts.items c.requires.known c.args.place c.index.result.now c.requires.place c.index.ensures in
     let xs = c.as_slice-splits.result.now in
     let i = c.loop-split.split-index in
     let split : Split = get_or xs i (record { test = 0; pass = 0; fail = 0 }) in
@@ -65,6 +65,6 @@ returns c =
     let v = step_value p (known_up p (rows_from s.rows.items)) g in
     let long = c.requires.known.kept_are.as_many in
     let place = c.requires.place in
-    let read = splits-read s.kept.items c.args.place c.index.result.now (omega arith) c.index.ensures in
+    let read = splits-read s.nodes.items c.args.place c.index.result.now (omega arith) c.index.ensures in
     c.loop-split.invariant
     ∙ ap (λ l. least_of (min r.up (greedy_cost p g) ∷ filter_map v (map (λ (x : Split). x.test) l))) (take_all c.loop-split.split-index xs c.loop-split-test.false ∙ c.as_slice-splits.ensures.value ∙ sym read)

@@ -8,11 +8,11 @@ sum_of-requires c =
     let s = c.args.graph.now in
     let inst = c.args.inst.now in
     subst (λ l. IsCountable inst.costs.items c.index.result.now.weight l c.args.split) (sym c.as_slice.ensures.value)
-    (countable inst s.numbers s.rows.items s.kept.items s.counts.items c.requires.known c.args.place c.requires.place c.args.split c.index.result.now c.requires.parts c.requires.there c.index.ensures)
+    (countable inst s.numbers s.rows.items s.nodes.items s.counts.items c.requires.known c.args.place c.requires.place c.args.split c.index.result.now c.requires.parts c.requires.there c.index.ensures)
 
 pub returns : goal.returns
 returns c =
     let s = c.args.graph.now in
     let inst = c.args.inst.now in
     c.sum_of.ensures ∙ ap (λ l. counted_sum inst.costs.items c.index.result.now.weight l c.args.split) c.as_slice.ensures.value
-    ∙ counted-is inst s.numbers s.rows.items s.kept.items s.counts.items c.requires.known c.args.place c.requires.place c.args.split c.index.result.now c.requires.parts c.index.ensures
+    ∙ counted-is inst s.numbers s.rows.items s.nodes.items s.counts.items c.requires.known c.args.place c.requires.place c.args.split c.index.result.now c.requires.parts c.index.ensures

@@ -16,16 +16,16 @@ give_back-requires-clause-place c =
     let row : Row = record { group = c.args.group.now; low = 0; up = greedy_cost (problem_of c.args.inst.now) (members c.args.group.now) } in
     let place = c.len-place.ensures ∙ old.ok.0 in
     let more = ap length (c.in_ok-look_at_all.ensures.rows ∙ c.in_ok-add.ensures.rows) ∙ length-append old.items (row ∷ []) in
-    let long = length-Narrows c.look_at_all.new.graph.rows.items c.refresh.new.graph.rows.items c.in_ok-refresh.ensures.narrows in
+    let long = length-Narrows c.look_at_all.new.graph.rows.items c.back_up.new.graph.rows.items c.in_ok-back_up.ensures.narrows in
     omega arith
 
 pub returns-clause-narrows : goal.returns-clause-narrows
 returns-clause-narrows c =
     let p = problem_of c.args.inst.now in
     let old = c.args.graph.now.rows.items in
-    let new = c.refresh.new.graph.rows.items in
+    let new = c.back_up.new.graph.rows.items in
     let first : Row = record { group = c.args.group.now; low = 0; up = no_value } in
     let row : Row = record { group = c.args.group.now; low = 0; up = greedy_cost p (members c.args.group.now) } in
     let small = greedy-small c.args.inst.now c.args.group.now (wanted-within p (members c.args.group.now) c.requires.real.wanted) in
     subst (Narrows (old ++ first ∷ [])) (sym c.give_back.ensures.rows)
-    (Narrows-trans (old ++ first ∷ []) (old ++ row ∷ []) new (Narrows-last old first row refl (omega arith) (omega arith)) (subst (λ l. Narrows l new) (c.in_ok-look_at_all.ensures.rows ∙ c.in_ok-add.ensures.rows) c.in_ok-refresh.ensures.narrows))
+    (Narrows-trans (old ++ first ∷ []) (old ++ row ∷ []) new (Narrows-last old first row refl (omega arith) (omega arith)) (subst (λ l. Narrows l new) (c.in_ok-look_at_all.ensures.rows ∙ c.in_ok-add.ensures.rows) c.in_ok-back_up.ensures.narrows))

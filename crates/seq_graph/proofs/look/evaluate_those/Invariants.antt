@@ -10,4 +10,4 @@ invariant-loop-at l = record {
 }
 
 abbrev pub decreases-loop-at : goal.decreases-loop-at
-decreases-loop-at l = length (waiting_at l.graph.kept.items l.place) - l.at
+decreases-loop-at l = length (waiting_at l.graph.nodes.items l.place) - l.at

@@ -9,7 +9,7 @@ use Rattle.seq_theory.proofs.PartsRecursion.{splitting-there}
 use Rattle.seq_inst.specs.declared.outcome.Row.{Row}
 use Rattle.seq_inst.specs.Instances.{problem_of}
 use Rattle.seq_inst.specs.Members.{members}
-use Rattle.seq_graph.specs.declared.kept.Waiting.{Waiting}
+use Rattle.seq_graph.specs.declared.node.Waiting.{Waiting}
 use Rattle.seq_core.specs.RowsOf.{rows_of as rows_from}
 use Rattle.seq_graph.specs.Known.{no_row, row_at, group_at, waiting_at}
 use Rattle.seq_graph.proofs.CountLaws.{kept-read}
@@ -27,10 +27,10 @@ have_ups-requires-clause-there c =
     let given = c.requires.place in
     let same = ap length i.rows in
     let place : c.args.place < length s.rows.items = omega arith in
-    let of = kept-read p s.numbers s.rows.items s.kept.items s.counts.items i.known c.args.place k place c.index-in-loop-at-2.ensures in
+    let of = kept-read p s.numbers s.rows.items s.nodes.items s.counts.items i.known c.args.place k place c.index-in-loop-at-2.ensures in
     let long = i.known.kept_are.as_many in
-    let one = ap length (waiting-read s.kept.items c.args.place c.index-in-loop-at.result.now (omega arith) c.index-in-loop-at.ensures) in
-    let two = ap length (waiting-read s.kept.items c.args.place k (omega arith) c.index-in-loop-at-2.ensures) in
+    let one = ap length (waiting-read s.nodes.items c.args.place c.index-in-loop-at.result.now (omega arith) c.index-in-loop-at.ensures) in
+    let two = ap length (waiting-read s.nodes.items c.args.place k (omega arith) c.index-in-loop-at-2.ensures) in
     let fits = c.index-in-loop-at.result.now.waiting.ok.0 in
     let len = c.len.ensures in
     let there = c.loop-at-test.true in
@@ -45,7 +45,7 @@ evaluate-requires-clause-there c =
     let given = c.requires.place in
     let same = ap length i.rows in
     let long = i.known.kept_are.as_many in
-    let one = ap length (waiting-read s.kept.items c.args.place c.index-in-loop-at.result.now (omega arith) c.index-in-loop-at.ensures) in
+    let one = ap length (waiting-read s.nodes.items c.args.place c.index-in-loop-at.result.now (omega arith) c.index-in-loop-at.ensures) in
     let fits = c.index-in-loop-at.result.now.waiting.ok.0 in
     let len = c.len.ensures in
     let there = c.loop-at-test.true in
@@ -58,7 +58,7 @@ loop-at-smaller c =
     let given = c.requires.place in
     let same = ap length i.rows in
     let long = i.known.kept_are.as_many in
-    let one = ap length (waiting-read s.kept.items c.args.place c.index-in-loop-at.result.now (omega arith) c.index-in-loop-at.ensures) in
+    let one = ap length (waiting-read s.nodes.items c.args.place c.index-in-loop-at.result.now (omega arith) c.index-in-loop-at.ensures) in
     let fits = c.index-in-loop-at.result.now.waiting.ok.0 in
     let len = c.len.ensures in
     let there = c.loop-at-test.true in
@@ -72,12 +72,12 @@ loop-at-preserved c =
     let f = step_value p (known_up p (rows_from s.rows.items)) in
     let k = c.index-in-loop-at-2.result.now in
     let w = c.index-in-loop-at-3.result.now in
-    let xs = waiting_at s.kept.items c.args.place in
+    let xs = waiting_at s.nodes.items c.args.place in
     let given = c.requires.place in
     let same = ap length i.rows in
     let long = i.known.kept_are.as_many in
-    let one = ap length (waiting-read s.kept.items c.args.place c.index-in-loop-at.result.now (omega arith) c.index-in-loop-at.ensures) in
-    let read = waiting-read s.kept.items c.args.place k (omega arith) c.index-in-loop-at-2.ensures in
+    let one = ap length (waiting-read s.nodes.items c.args.place c.index-in-loop-at.result.now (omega arith) c.index-in-loop-at.ensures) in
+    let read = waiting-read s.nodes.items c.args.place k (omega arith) c.index-in-loop-at-2.ensures in
     let fits = c.index-in-loop-at.result.now.waiting.ok.0 in
     let len = c.len.ensures in
     let there = c.loop-at-test.true in
@@ -99,11 +99,11 @@ returns-clause-valued c =
     let i = c.loop-at.invariant in
     let p = problem_of c.args.inst.now in
     let f = step_value p (known_up p (rows_from s.rows.items)) in
-    let xs = waiting_at s.kept.items c.args.place in
+    let xs = waiting_at s.nodes.items c.args.place in
     let given = c.requires.place in
     let same = ap length i.rows in
     let long = i.known.kept_are.as_many in
-    let one = ap length (waiting-read s.kept.items c.args.place c.index-in-loop-at.result.now (omega arith) c.index-in-loop-at.ensures) in
+    let one = ap length (waiting-read s.nodes.items c.args.place c.index-in-loop-at.result.now (omega arith) c.index-in-loop-at.ensures) in
     let fits = c.index-in-loop-at.result.now.waiting.ok.0 in
     let len = c.len.ensures in
     let end = c.loop-at-test.false in

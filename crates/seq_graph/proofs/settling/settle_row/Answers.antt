@@ -16,5 +16,5 @@ returns-clause-rows c =
     let long = ap length same in
     let there = c.requires.place in
     let below = subst (λ l. AreSettledBelow p l (size_at l place)) (sym same) c.requires.below in
-    let row = tightened-settled c.args.inst.now s.numbers s.rows.items s.kept.items s.counts.items c.in_ok-look_at_all.ensures.known place (omega arith) below c.in_ok-look_at_all.ensures.valued in
-    c.tighten.ensures.rows ∙ ap (set s.rows.items place) row ∙ ap (λ l. set l place (settled_row p (groups_in l) (row_at l place))) same
+    let row = tightened-settled c.args.inst.now s.numbers s.rows.items s.nodes.items s.counts.items c.in_ok-look_at_all.ensures.known place (omega arith) below c.in_ok-look_at_all.ensures.valued in
+    c.revise.ensures.rows ∙ ap (set s.rows.items place) row ∙ ap (λ l. set l place (settled_row p (groups_in l) (row_at l place))) same

@@ -1,6 +1,6 @@
 use Rattle.std.proofs.Common.{◌≡◌, ℕ, ◌≤◌, length, get_or, take}
 use Rattle.std.specs.Prelude.{nat_le, filter}
-use Rattle.seq_graph.specs.declared.kept.Split.{Split}
+use Rattle.seq_graph.specs.declared.node.Split.{Split}
 use Rattle.seq_graph.specs.Sums.{counted_sum}
 use Rattle.seq_graph.proofs.sums.leave_out.Given as goal
 

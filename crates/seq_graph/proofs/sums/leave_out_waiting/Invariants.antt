@@ -1,6 +1,6 @@
 use Rattle.std.proofs.Common.{◌≡◌, ℕ, ◌≤◌, length, get_or, take}
 use Rattle.std.specs.Prelude.{nat_le, filter}
-use Rattle.seq_graph.specs.declared.kept.Waiting.{Waiting}
+use Rattle.seq_graph.specs.declared.node.Waiting.{Waiting}
 use Rattle.seq_graph.proofs.sums.leave_out_waiting.Given as goal
 
 -- those that stay of what was gone through are in front, and the rest is as it was

@@ -7,7 +7,7 @@ use Rattle.seq_theory.specs.Problem.{IsIn, IsWithin, splitting}
 use Rattle.seq_inst.specs.declared.outcome.Row.{Row}
 use Rattle.seq_inst.specs.Instances.{problem_of}
 use Rattle.seq_inst.specs.Members.{members}
-use Rattle.seq_graph.specs.declared.kept.Waiting.{Waiting}
+use Rattle.seq_graph.specs.declared.node.Waiting.{Waiting}
 use Rattle.seq_graph.specs.KeptOf.{KeepsTests}
 use Rattle.seq_graph.specs.Known.{no_row}
 use Rattle.seq_graph.proofs.KnownLaws.{row-within}
@@ -31,7 +31,7 @@ evaluate-requires-clause-there c =
     let long = c.requires.known.kept_are.as_many in
     let place = c.requires.place in
     let there = c.requires.there in
-    let read = ap length (waiting-read s.kept.items c.args.place c.index_mut.result.now (omega arith) c.index_mut.ensures.value) in
+    let read = ap length (waiting-read s.nodes.items c.args.place c.index_mut.result.now (omega arith) c.index_mut.ensures.value) in
     let many = c.index_mut.result.now.waiting.ok.0 in
     omega arith
 
@@ -40,13 +40,13 @@ evaluate-requires-clause-splits c =
     let s = c.args.graph.now in
     let p = problem_of c.args.inst.now in
     let read = get_or_read s.rows.items c.args.place c.index.result.now c.requires.place c.index.ensures no_row in
-    let of = kept-read p s.numbers s.rows.items s.kept.items s.counts.items c.requires.known c.args.place c.index_mut.result.now c.requires.place c.index_mut.ensures.value in
+    let of = kept-read p s.numbers s.rows.items s.nodes.items s.counts.items c.requires.known c.args.place c.index_mut.result.now c.requires.place c.index_mut.ensures.value in
     subst (λ (r : Row). All (λ (w : Waiting). IsIn w.test (splitting p (members r.group))) c.index_mut.result.now.waiting.items) (sym read) of.tests.waiting_are
 
 pub count_new-requires-clause-fewer : goal.count_new-requires-clause-fewer
 count_new-requires-clause-fewer c =
     let s = c.args.graph.now in
-    let long = counts-long (problem_of c.args.inst.now) s.numbers s.rows.items s.kept.items s.counts.items c.requires.known in
+    let long = counts-long (problem_of c.args.inst.now) s.numbers s.rows.items s.nodes.items s.counts.items c.requires.known in
     let more = keeps-long s.numbers.groups c.evaluate.new.numbers.groups c.in_ok-evaluate.ensures.keeps in
     omega arith
 
@@ -57,7 +57,7 @@ returns-clause-known c =
     let k = c.index_mut.result.now in
     let e = c.in_ok-evaluate.ensures in
     let read = get_or_read s.rows.items c.args.place c.index.result.now c.requires.place c.index.ensures no_row in
-    evaluated-known c.args.inst.now s.numbers c.evaluate.new.numbers s.rows.items s.kept.items s.counts.items c.requires.known e.numbers e.keeps c.args.place k c.evaluate.new.self c.count_new.new.counts.items
+    evaluated-known c.args.inst.now s.numbers c.evaluate.new.numbers s.rows.items s.nodes.items s.counts.items c.requires.known e.numbers e.keeps c.args.place k c.evaluate.new.self c.count_new.new.counts.items
     c.requires.place c.index_mut.ensures.value e.number e.weight e.bound e.greedy (subst (λ (r : Row). KeepsTests p s.numbers c.evaluate.new.numbers (members r.group) k c.evaluate.new.self) read e.tests) c.in_ok-count_new.ensures
 
 pub returns-clause-fewer : goal.returns-clause-fewer
@@ -65,8 +65,8 @@ returns-clause-fewer c =
     let s = c.args.graph.now in
     let long = c.requires.known.kept_are.as_many in
     let place = c.requires.place in
-    let before = ap length (waiting-read s.kept.items c.args.place c.index_mut.result.now (omega arith) c.index_mut.ensures.value) in
-    let after = ap length (waiting-set s.kept.items c.args.place c.evaluate.new.self (omega arith)) in
+    let before = ap length (waiting-read s.nodes.items c.args.place c.index_mut.result.now (omega arith) c.index_mut.ensures.value) in
+    let after = ap length (waiting-set s.nodes.items c.args.place c.evaluate.new.self (omega arith)) in
     let e = c.in_ok-evaluate.ensures.evaluated in
     let taken = ap length e.waiting in
     let fewer = length-taken c.index_mut.result.now.waiting.items c.args.at e.entry e.waited in
@@ -77,8 +77,8 @@ returns-clause-before c =
     let s = c.args.graph.now in
     let long = c.requires.known.kept_are.as_many in
     let place = c.requires.place in
-    let before = waiting-read s.kept.items c.args.place c.index_mut.result.now (omega arith) c.index_mut.ensures.value in
-    let after = waiting-set s.kept.items c.args.place c.evaluate.new.self (omega arith) in
+    let before = waiting-read s.nodes.items c.args.place c.index_mut.result.now (omega arith) c.index_mut.ensures.value in
+    let after = waiting-set s.nodes.items c.args.place c.evaluate.new.self (omega arith) in
     let e = c.in_ok-evaluate.ensures.evaluated in
     let taken = before-taken c.index_mut.result.now.waiting.items c.args.at e.entry (slice_get_within c.index_mut.result.now.waiting.items c.args.at e.entry e.waited) in
     ap (take c.args.at) (after ∙ e.waiting) ∙ taken ∙ sym (ap (take c.args.at) before)
@@ -87,7 +87,7 @@ pub returns-clause-listed : goal.returns-clause-listed
 returns-clause-listed c = λ s there.
     let long = c.requires.known.kept_are.as_many in
     let place = c.requires.place in
-    let kept = c.args.graph.now.kept.items in
+    let kept = c.args.graph.now.nodes.items in
     let e = c.in_ok-evaluate.ensures.evaluated in
     let before = splits-read kept c.args.place c.index_mut.result.now (omega arith) c.index_mut.ensures.value in
     let after = splits-set kept c.args.place c.evaluate.new.self (omega arith) ∙ e.splits in

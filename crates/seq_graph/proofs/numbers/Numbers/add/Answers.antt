@@ -30,7 +30,7 @@ invariant_of-self c =
     let s = c.insert.ensures.spare in
     let t = c.push.ensures.capacity in
     record {
-      words = subst AreWords (sym more) (words-more (keys old) g.0 i.words c.know_words.ensures);
+      words = subst AreWords (sym more) (words-more (keys old) g.0 i.words c.group_stands.ensures);
       as_many = omega arith;
       few = omega arith;
       room_for_bounds = omega arith;

@@ -7,10 +7,10 @@ use Rattle.seq_graph.proofs.GreedyChoiceLaws.{sum-fits}
 use Rattle.seq_graph.proofs.numbers.Numbers.bound_sum.Goals as goal
 
 pub bound_within-pass-requires-clause-within : goal.bound_within-pass-requires-clause-within
-bound_within-pass-requires-clause-within c = within-pass (problem_of c.args.inst.now) (members c.args.group.now) (members c.part-pass_part.result) c.args.test c.requires.within c.part-pass_part.ensures.classes
+bound_within-pass-requires-clause-within c = c.part-pass_part.ensures.within c.requires.within
 
 pub bound_within-fail-requires-clause-within : goal.bound_within-fail-requires-clause-within
-bound_within-fail-requires-clause-within c = within-fail (problem_of c.args.inst.now) (members c.args.group.now) (members c.part-fail_part.result) c.args.test c.requires.within c.part-fail_part.ensures.classes
+bound_within-fail-requires-clause-within c = c.part-fail_part.ensures.within c.requires.within
 
 pub overflow_mul-result : goal.overflow_mul-result
 overflow_mul-result c =

@@ -1,0 +1,34 @@
+use Rattle.std.proofs.Common.{◌≡◌, ◌∙◌, ◌<◌, arith}
+use Rattle.std.proofs.lemmas.List.{get_or_read}
+use Rattle.seq_inst.specs.Members.{members}
+use Rattle.seq_inst.specs.Instances.{problem_of}
+use Rattle.seq_core.proofs.SumLaws.{first-fits}
+use Rattle.seq_core.proofs.machine.Core.low_sum.Goals as goal
+
+pub known_low-pass-requires-clause-within : goal.known_low-pass-requires-clause-within
+known_low-pass-requires-clause-within c = c.part-pass_part.ensures.within c.requires.within
+
+pub known_low-fail-requires-clause-within : goal.known_low-fail-requires-clause-within
+known_low-fail-requires-clause-within c = c.part-fail_part.ensures.within c.requires.within
+
+pub overflow_mul-result : goal.overflow_mul-result
+overflow_mul-result c =
+    let p = problem_of c.args.inst.now in
+    let n = c.args.inst.now.costs.ok.0 in
+    let t = c.requires.there in
+    let there : c.args.test < p.tests = omega arith in
+    let cost : c.from.result ≡ p.cost c.args.test = c.from.ensures ∙ get_or_read c.args.inst.now.costs.items c.args.test c.index.result.now there c.index.ensures 0 in
+    let f = first-fits c.args.inst.now c.args.group.now c.from.result c.args.weight c.args.test c.requires.within there cost c.requires.weight in
+    omega arith
+
+pub overflow_add-result-2 : goal.overflow_add-result-2
+overflow_add-result-2 c =
+    let p = problem_of c.args.inst.now in
+    let n = c.args.inst.now.costs.ok.0 in
+    let t = c.requires.there in
+    let there : c.args.test < p.tests = omega arith in
+    let cost : c.from.result ≡ p.cost c.args.test = c.from.ensures ∙ get_or_read c.args.inst.now.costs.items c.args.test c.index.result.now there c.index.ensures 0 in
+    let f = first-fits c.args.inst.now c.args.group.now c.from.result c.args.weight c.args.test c.requires.within there cost c.requires.weight in
+    let a = c.known_low-pass.ensures.fits in
+    let b = c.known_low-fail.ensures.fits in
+    omega arith

@@ -1,0 +1,10 @@
+use Rattle.std.proofs.Common.{◌∙◌, sym, ap, subst}
+use Rattle.seq_core.specs.RowsOf.{rows_of}
+use Rattle.seq_core.specs.Tables.{Table}
+use Rattle.seq_core.specs.Events.{AreBetween}
+use Rattle.seq_core.proofs.CoreLaws.{rows-between}
+use Rattle.seq_core.proofs.machine.Core.rows.Goals as goal
+
+pub returns-clause-between : goal.returns-clause-between
+returns-clause-between c = λ p weighed told of.
+    subst (λ l. AreBetween p (rows_of l)) (sym (c.as_slice.ensures.value ∙ ap (λ (t : Table). t.rows) c.self.view_is)) (rows-between p c.args.self.now.room (rows_of c.args.self.now.rows) weighed told of.sound)

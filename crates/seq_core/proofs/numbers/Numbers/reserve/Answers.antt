@@ -1,6 +1,0 @@
-use Rattle.seq_core.proofs.NumberLaws.{numbers-reserved}
-use Rattle.seq_core.proofs.numbers.Numbers.reserve.Goals as goal
-
-pub returns-clause-numbers : goal.returns-clause-numbers
-returns-clause-numbers c p are =
-    numbers-reserved p c.self.inside.order c.self.inside.bounds.entries _ c.self.inside.greedy.items _ c.self.inside.room c.args.more c.args.self.now c.reserve.ensures.entries c.reserve-2.ensures.items c.self.view_is are

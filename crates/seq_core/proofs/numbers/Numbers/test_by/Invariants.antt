@@ -1,7 +1,0 @@
-use Rattle.seq_inst.specs.Members.{members}
-use Rattle.seq_inst.specs.Instances.{problem_of}
-use Rattle.seq_core.proofs.ChoiceLaws.{FirstSoFar}
-use Rattle.seq_core.proofs.numbers.Numbers.test_by.Given as goal
-
-abbrev pub invariant-loop-test : goal.invariant-loop-test
-invariant-loop-test l = FirstSoFar (problem_of l.inst) (members l.group) l.initial.self l.self l.test l.chosen
