@@ -23,7 +23,7 @@ unfolded-requires-clause-known c = let e = c.model-model.ensures in known c.args
 pub unfolded-requires-clause-within : goal.unfolded-requires-clause-within
 unfolded-requires-clause-within c =
     sym (refusal-is c.args.valid.now c.in-Ok.found.1 c.in-Ok.ensures.1)
-    ∙ ap (λ (m : Model). refusal_after (first_over (limits_of c.in-Ok.found.1)) (nat_eq m.good 0 && nat_eq c.in-Ok.found.1.faults 0)) (sym c.model-model.ensures.same) ∙ sym c.in-None.ensures
+    ∙ ap (λ (m : Model). refusal_after (first_over (limits_of c.in-Ok.found.1)) (nat_eq m.good 0 && nat_eq c.in-Ok.found.1.faults 0)) (sym c.model-model.ensures.same) ∙ sym c.in_default.ensures
 
 pub returns-in-Some-clause-refused : goal.returns-in-Some-clause-refused
 returns-in-Some-clause-refused c =
