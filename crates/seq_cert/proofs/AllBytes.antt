@@ -5,10 +5,17 @@ use Rattle.std.specs.List.{list_all}
 use Rattle.std.specs.Str.{IsAscii}
 use Rattle.std.proofs.lemmas.Bool.{and_parts, or_cases}
 use Rattle.std.proofs.lemmas.Bool.Decides.{nat_tests}
+use Rattle.std.proofs.lemmas.Slice.Eq.{bytes_eq-Decides}
 use Rattle.sig_types.specs.NameText.{is_name_byte, is_name}
-use Rattle.sig_lines.specs.Pieces.{same_text}
-use Rattle.sig_lines.proofs.NumberWords.{same_text-true}
+use Rattle.std.specs.Str.{bytes_eq}
 use Rattle.seq_cert.specs.LineForms.{is_in, is_label, is_mode}
+
+-- the test whether two texts are the same tells it
+pub text_is : (a b : List ℕ) → bytes_eq a b ≡ true → a ≡ b
+text_is a b e = (bytes_eq-Decides a b).0 e
+
+pub text_self : (a : List ℕ) → bytes_eq a a ≡ true
+text_self a = (bytes_eq-Decides a a).1 refl
 
 module _ (f : ℕ → Bool) where
   step : (i : ℕ) (xs : List ℕ) → i < length xs → list_all f (drop i xs) ≡ (f (get_or xs i 0) && list_all f (drop (suc i) xs))
@@ -61,7 +68,7 @@ dash zero = omega arith
 dash (suc i) = omega arith
 
 pub ascii_mode : (mode : List ℕ) → is_mode mode ≡ true → IsAscii mode
-ascii_mode mode e = elim (or_cases (same_text mode (codes "-")) (is_name mode) e) [
-  | inl h ↦ (let same = same_text-true mode (codes "-") h in subst IsAscii (sym same) dash)
+ascii_mode mode e = elim (or_cases (bytes_eq mode (codes "-")) (is_name mode) e) [
+  | inl h ↦ (let same = text_is mode (codes "-") h in subst IsAscii (sym same) dash)
   | inr h ↦ ascii_name mode h
 ]

@@ -7,21 +7,20 @@ use Rattle.std.proofs.lemmas.Bool.{cases_Bool, ne_eqb, true≢false, eq-eqb}
 use Rattle.std.proofs.lemmas.Fmt.{decimal_injective}
 use Rattle.std.proofs.lemmas.Str.{IsUtf8-from_ascii}
 use Rattle.sig_types.specs.NameText.{is_name}
-use Rattle.sig_lines.specs.Pieces.{same_text}
-use Rattle.sig_lines.proofs.NumberWords.{same_text-true, same_text-refl}
-use Rattle.seq_cert.proofs.AllBytes.{ascii_name}
+use Rattle.std.specs.Str.{bytes_eq}
+use Rattle.seq_cert.proofs.AllBytes.{text_is, text_self, ascii_name}
 
 -- the number that the word writes is n, or another
-pub writes_number : (word : List ℕ) (m n : ℕ) → m < 2 ^ 64 → n < 2 ^ 64 → word ≡ decimal m → nat_eq m n ≡ same_text word (decimal n)
-writes_number word m n small_m small_n is = elim (cases_Bool (same_text word (decimal n))) [
-  | inl y ↦ (let e = decimal_injective m n small_m small_n (sym is ∙ same_text-true word (decimal n) y) in eq-eqb m n e ∙ sym y)
-  | inr other ↦ ne_eqb m n (λ e. true≢false (sym (same_text-refl (decimal n)) ∙ ap (λ w. same_text w (decimal n)) (ap decimal (sym e) ∙ sym is) ∙ other)) ∙ sym other
+pub writes_number : (word : List ℕ) (m n : ℕ) → m < 2 ^ 64 → n < 2 ^ 64 → word ≡ decimal m → nat_eq m n ≡ bytes_eq word (decimal n)
+writes_number word m n small_m small_n is = elim (cases_Bool (bytes_eq word (decimal n))) [
+  | inl y ↦ (let e = decimal_injective m n small_m small_n (sym is ∙ text_is word (decimal n) y) in eq-eqb m n e ∙ sym y)
+  | inr other ↦ ne_eqb m n (λ e. true≢false (sym (text_self (decimal n)) ∙ ap (λ w. bytes_eq w (decimal n)) (ap decimal (sym e) ∙ sym is) ∙ other)) ∙ sym other
 ]
 
 -- the word writes no number
-pub writes_none : (word : List ℕ) (n : ℕ) → word ≢ decimal n → false ≡ same_text word (decimal n)
-writes_none word n never = elim (cases_Bool (same_text word (decimal n))) [
-  | inl y ↦ absurd (never (same_text-true word (decimal n) y))
+pub writes_none : (word : List ℕ) (n : ℕ) → word ≢ decimal n → false ≡ bytes_eq word (decimal n)
+writes_none word n never = elim (cases_Bool (bytes_eq word (decimal n))) [
+  | inl y ↦ absurd (never (text_is word (decimal n) y))
   | inr other ↦ sym other
 ]
 

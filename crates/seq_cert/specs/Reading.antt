@@ -23,6 +23,10 @@ use Rattle.seq_cert.specs.LineForms.{most_64, numbered, title_in, mode_in, resul
 abbrev pub place : LineReader → Cursor
 place r = cursor r.number (r.rest).now
 
+-- the fault of a line that is not of its form
+abbrev pub bad_at : ℕ → ReportFault
+bad_at number = Bad (record { line = number; code = C01 })
+
 -- what a function returned, seen by view, is what reading gives, unless memory ran out; a bad line has code C01
 abbrev pub Fails : {Y : Type 0} → ReportFault → Result Y ℕ → Type 0
 Fails OutOfMemory read = Unit {0}
@@ -32,33 +36,40 @@ abbrev pub Gives : {X Y : Type 0} → (X → Y) → Result X ReportFault → Res
 Gives view (Ok x) read = read ≡ Ok (view x)
 Gives view (Err e) read = Fails e read
 
--- the first twelve lines, in three groups
-unfoldable pub first_at : Cursor → Reading (Unit {0} × (List ℕ × (ℕ × (ℕ × ℕ))))
-first_at c = (line_at title_in then (line_at mode_in then (line_at (numbered (codes "states") 1 4097) then (line_at (numbered (codes "classes") 1 512) then line_at (numbered (codes "tests") 0 256))))) c
+-- what the first twelve lines say, line by line
+abbrev pub HeadSaid : Type 0
+HeadSaid = Unit {0} × (List ℕ × (ℕ × (ℕ × (ℕ × (ℕ × (Verdict × (ℕ × (ℕ × (ℕ × (ℕ × ℕ))))))))))
 
-unfoldable pub second_at : Cursor → Reading (ℕ × (Verdict × ℕ))
-second_at c = (line_at (numbered (codes "weight") 0 most_64) then (line_at result_in then line_at (numbered (codes "cost") 0 most_64))) c
-
-unfoldable pub third_at : Cursor → Reading (ℕ × (ℕ × (ℕ × ℕ)))
-third_at c = (line_at (numbered (codes "low") 0 most_64) then (line_at (numbered (codes "gap") 0 most_64) then (line_at (numbered (codes "limit") 1 32768) then line_at (numbered (codes "groups") 0 32768)))) c
-
-abbrev pub head_from : (Unit {0} × (List ℕ × (ℕ × (ℕ × ℕ)))) × ((ℕ × (Verdict × ℕ)) × (ℕ × (ℕ × (ℕ × ℕ)))) → Head
+abbrev pub head_from : HeadSaid → Head
 head_from x = record {
-  mode = x.0.1.0;
-  states = x.0.1.1.0;
-  classes = x.0.1.1.1.0;
-  tests = x.0.1.1.1.1;
-  weight = x.1.0.0;
-  verdict = x.1.0.1.0;
-  cost = x.1.0.1.1;
-  low = x.1.1.0;
-  gap = x.1.1.1.0;
-  limit = x.1.1.1.1.0;
-  groups = x.1.1.1.1.1;
+  mode = x.1.0;
+  states = x.1.1.0;
+  classes = x.1.1.1.0;
+  tests = x.1.1.1.1.0;
+  weight = x.1.1.1.1.1.0;
+  verdict = x.1.1.1.1.1.1.0;
+  cost = x.1.1.1.1.1.1.1.0;
+  low = x.1.1.1.1.1.1.1.1.0;
+  gap = x.1.1.1.1.1.1.1.1.1.0;
+  limit = x.1.1.1.1.1.1.1.1.1.1.0;
+  groups = x.1.1.1.1.1.1.1.1.1.1.1;
 }
 
+-- the first twelve lines
 unfoldable pub head_at : Cursor → Reading Head
-head_at c = read_as head_from (first_at then (second_at then third_at)) c
+head_at c = read_as head_from
+    (line_at title_in
+    then (line_at mode_in
+    then (line_at (numbered (codes "states") 1 4097)
+    then (line_at (numbered (codes "classes") 1 512)
+    then (line_at (numbered (codes "tests") 0 256)
+    then (line_at (numbered (codes "weight") 0 most_64)
+    then (line_at result_in
+    then (line_at (numbered (codes "cost") 0 most_64)
+    then (line_at (numbered (codes "low") 0 most_64)
+    then (line_at (numbered (codes "gap") 0 most_64)
+    then (line_at (numbered (codes "limit") 1 32768)
+    then line_at (numbered (codes "groups") 0 32768)))))))))))) c
 
 -- so many lines, of the form that each number from k on has
 unfoldable pub lines_at : {A : Type 0} → (ℕ → List (List ℕ) → Option A) → ℕ → ℕ → Cursor → Reading (List A)

@@ -7,12 +7,11 @@ ghost use Rattle.sig_lines.specs.Reading.{line_at};
 ghost use Rattle.seq_cert.specs.LineForms.{class_in, state_in};
 ghost use Rattle.seq_cert.specs.Reading.{Gives, place, states_at, class_at, classes_at};
 
+use crate::due_line::{due_line, or_bad};
 use crate::fault::{ReportFault, bad_line};
 use crate::report::{ClassLine, StateLine};
 use crate::words::{is_label, is_number};
-use sig_lines::{
-    LineReader, ascii_text, four_words, is_text, line_of, number_between, three_words,
-};
+use sig_lines::{LineReader, ascii_text, four_words, is_text, number_between, three_words};
 use sig_types::List;
 use std::alloc::Global;
 
@@ -36,19 +35,15 @@ fn state_of(line: &[u8]) -> Option<(u64, &[u8])>
 fn state_at(alloc: Global, at: LineReader<'_>) -> Result<(StateLine, LineReader<'_>), ReportFault>
     ensures { Gives (λ x. (x.0, place x.1)) result (line_at state_in (place at.entry)) }
 {
-    let Some((line, after)) = line_of(at) else {
-        return Err(bad_line(at));
-    };
-    match state_of(line) {
-        Some((weight, label)) => Ok((
-            StateLine {
-                weight,
-                label: ascii_text(alloc, label)?,
-            },
-            after,
-        )),
-        None => Err(bad_line(at)),
-    }
+    let (line, after) = due_line(at)?;
+    let (weight, label) = or_bad(state_of(line), at)?;
+    Ok((
+        StateLine {
+            weight,
+            label: ascii_text(alloc, label)?,
+        },
+        after,
+    ))
 }
 
 /// The weight of a class and the count of its states.
@@ -68,13 +63,8 @@ fn class_of(k: u32, line: &[u8]) -> Option<(u64, u64)>
 fn class_at(k: u32, at: LineReader<'_>) -> Result<((u64, u64), LineReader<'_>), ReportFault>
     ensures { Gives (λ x. (x.0, place x.1)) result (line_at (class_in k) (place at.entry)) }
 {
-    let Some((line, after)) = line_of(at) else {
-        return Err(bad_line(at));
-    };
-    match class_of(k, line) {
-        Some(class) => Ok((class, after)),
-        None => Err(bad_line(at)),
-    }
+    let (line, after) = due_line(at)?;
+    Ok((or_bad(class_of(k, line), at)?, after))
 }
 
 /// So many state lines, but no more than there is room for.
@@ -119,7 +109,7 @@ fn class_with_states(
 }
 
 /// So many classes with their states.
-pub fn classes_of(
+pub(crate) fn classes_of(
     alloc: Global,
     count: u32,
     start: LineReader<'_>,

@@ -64,7 +64,7 @@ fn write_class(
 }
 
 /// Writes all classes with their states.
-pub fn write_classes(
+pub(crate) fn write_classes(
     alloc: Global,
     out: &mut Lines,
     inst: &Instance,

@@ -2,8 +2,8 @@
 //! names a line that is not of its form (C01); a checker names a line that says what is not so.
 ghost use Rattle.std.specs.Prelude.{◌≡◌};
 ghost use Rattle.seq_cert.specs.BadCodes.{bad_word};
-ghost use Rattle.seq_cert.specs.declared.fault.ReportFault.TheVariants.{Bad, OutOfMemory};
-ghost use Rattle.seq_cert.specs.declared.fault.BadCode.TheVariants.{C01};
+ghost use Rattle.seq_cert.specs.Reading.{bad_at};
+ghost use Rattle.seq_cert.specs.declared.fault.ReportFault.TheVariants.{OutOfMemory};
 
 use sig_lines::LineReader;
 use std::alloc::{AllocError, AllocFailed};
@@ -85,7 +85,7 @@ impl<T: Drop> From<AllocFailed<T>> for ReportFault {
 
 /// The fault of a line that is not of its form: the next line of the reader, also where there is none.
 pub(crate) fn bad_line(at: LineReader<'_>) -> ReportFault
-    ensures { result ≡ Bad (record { line = at.entry.number; code = C01 }) }
+    ensures { result ≡ bad_at at.entry.number }
 {
     ReportFault::Bad(BadLine {
         line: at.number,

@@ -6,12 +6,11 @@ ghost use Rattle.sig_lines.specs.Reading.{line_at};
 ghost use Rattle.seq_cert.specs.LineForms.{group_in, missed_in};
 ghost use Rattle.seq_cert.specs.Reading.{Gives, place, lines_at, missed_at};
 
-use crate::fault::{ReportFault, bad_line};
+use crate::due_line::{due_line, or_bad};
+use crate::fault::ReportFault;
 use crate::report::{GroupLine, MissedLine};
 use seq_inst::{Group, Verdict};
-use sig_lines::{
-    LineReader, four_words, is_text, line_of, number_between, three_words, words_in_hex,
-};
+use sig_lines::{LineReader, four_words, is_text, number_between, three_words, words_in_hex};
 use sig_types::List;
 use std::alloc::Global;
 
@@ -36,17 +35,12 @@ fn group_of(line: &[u8]) -> Option<GroupLine>
 fn group_at(at: LineReader<'_>) -> Result<(GroupLine, LineReader<'_>), ReportFault>
     ensures { Gives (λ x. (x.0, place x.1)) result (line_at group_in (place at.entry)) }
 {
-    let Some((line, after)) = line_of(at) else {
-        return Err(bad_line(at));
-    };
-    match group_of(line) {
-        Some(group) => Ok((group, after)),
-        None => Err(bad_line(at)),
-    }
+    let (line, after) = due_line(at)?;
+    Ok((or_bad(group_of(line), at)?, after))
 }
 
 /// So many group lines.
-pub fn groups_of(
+pub(crate) fn groups_of(
     alloc: Global,
     count: u32,
     start: LineReader<'_>,
@@ -81,7 +75,7 @@ fn missed_of(line: &[u8]) -> Option<MissedLine>
 
 /// The missed line, where the result is bounded.
 #[tactic(auto, unfolding(crate::specs::Reading::missed_at))]
-pub fn missed_at(
+pub(crate) fn missed_at(
     verdict: Verdict,
     at: LineReader<'_>,
 ) -> Result<(Option<MissedLine>, LineReader<'_>), ReportFault>
@@ -90,13 +84,9 @@ pub fn missed_at(
     match verdict {
         Verdict::Optimal => Ok((None, at)),
         Verdict::Bounded => {
-            let Some((line, after)) = line_of(at) else {
-                return Err(bad_line(at));
-            };
-            match missed_of(line) {
-                Some(missed) => Ok((Some(missed), after)),
-                None => Err(bad_line(at)),
-            }
+            let (line, after) = due_line(at)?;
+            let missed = or_bad(missed_of(line), at)?;
+            Ok((Some(missed), after))
         }
     }
 }

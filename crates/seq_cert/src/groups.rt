@@ -12,7 +12,7 @@ ghost use Rattle.seq_cert.specs.ReportForm.{IsGroup, IsGroupLine, IsMissed};
 
 use crate::report::GroupLine;
 use seq_inst::{Group, Row, count_of, group_stands};
-use sig_lines::Lines;
+use sig_lines::{Lines, lines_hold};
 use std::alloc::{AllocError, Global};
 use std::cmp::Ordering;
 
@@ -52,6 +52,7 @@ pub fn comes_before(a: &GroupLine, b: &GroupLine) -> bool
 fn know_group(group: &Group)
     ensures { IsGroup group.now }
 {
+    lines_hold();
     group_stands(group);
 }
 
@@ -102,7 +103,7 @@ fn write_lines(out: &mut Lines, lines: &[GroupLine]) -> Result<(), AllocError>
 }
 
 /// Writes the lines of the rows, in order.
-pub fn write_groups(alloc: Global, out: &mut Lines, rows: &[Row]) -> Result<(), AllocError>
+pub(crate) fn write_groups(alloc: Global, out: &mut Lines, rows: &[Row]) -> Result<(), AllocError>
     ensures written { OnOk result (out.new ≡ with_lines out.old (map group_words (in_order (map row_line rows.now)))) }
     ensures fits { OnOk result (All IsGroupLine (in_order (map row_line rows.now))) }
 {
@@ -111,7 +112,7 @@ pub fn write_groups(alloc: Global, out: &mut Lines, rows: &[Row]) -> Result<(), 
 }
 
 /// Writes the line of the group that was missed, where there is one.
-pub fn write_missed(out: &mut Lines, missed: Option<Group>) -> Result<(), AllocError>
+pub(crate) fn write_missed(out: &mut Lines, missed: Option<Group>) -> Result<(), AllocError>
     ensures written { OnOk result (out.new ≡ with_lines out.old (missed_lines (option_map missed_line missed))) }
     ensures fits { IfSome (option_map missed_line missed) IsMissed }
 {

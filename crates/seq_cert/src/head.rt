@@ -46,7 +46,7 @@ fn write_result(out: &mut Lines, outcome: &Outcome) -> Result<(), AllocError>
 }
 
 /// Writes the first twelve lines.
-pub fn write_head(
+pub(crate) fn write_head(
     out: &mut Lines,
     inst: &Instance,
     outcome: &Outcome,

@@ -6,18 +6,19 @@ ghost use Rattle.std.specs.Str.{IsAscii};
 ghost use Rattle.sig_lines.specs.Pieces.{SeenAs, words_in};
 ghost use Rattle.sig_lines.specs.Reading.{line_at};
 ghost use Rattle.seq_cert.specs.LineForms.{numbered, title_in, mode_in, result_in};
-ghost use Rattle.seq_cert.specs.Reading.{Gives, place, first_at, second_at, third_at, head_at};
+ghost use Rattle.seq_cert.specs.Reading.{Gives, place, head_at};
 
-use crate::fault::{ReportFault, bad_line};
+use crate::due_line::{due_line, or_bad};
+use crate::fault::ReportFault;
 use crate::words::is_mode;
 use seq_inst::Verdict;
-use sig_lines::{LineReader, ascii_text, is_text, line_of, number_between, three_words, two_words};
+use sig_lines::{LineReader, ascii_text, is_text, number_between, three_words, two_words};
 use sig_types::Text;
 use std::alloc::Global;
 
 /// The first twelve lines.
 #[derive(Debug, Drop)]
-pub struct Head {
+pub(crate) struct Head {
     pub mode: Text,
     pub states: u32,
     pub classes: u32,
@@ -45,13 +46,9 @@ fn is_title(line: &[u8]) -> Option<()>
 fn title_at(at: LineReader<'_>) -> Result<((), LineReader<'_>), ReportFault>
     ensures { Gives (λ x. (x.0, place x.1)) result (line_at title_in (place at.entry)) }
 {
-    let Some((line, after)) = line_of(at) else {
-        return Err(bad_line(at));
-    };
-    match is_title(line) {
-        Some(()) => Ok(((), after)),
-        None => Err(bad_line(at)),
-    }
+    let (line, after) = due_line(at)?;
+    or_bad(is_title(line), at)?;
+    Ok(((), after))
 }
 
 #[tactic(auto, using(crate::proofs::AllBytes::ascii_mode))]
@@ -70,13 +67,9 @@ fn mode_of(line: &[u8]) -> Option<&[u8]>
 fn mode_at(alloc: Global, at: LineReader<'_>) -> Result<(Text, LineReader<'_>), ReportFault>
     ensures { Gives (λ x. (x.0, place x.1)) result (line_at mode_in (place at.entry)) }
 {
-    let Some((line, after)) = line_of(at) else {
-        return Err(bad_line(at));
-    };
-    match mode_of(line) {
-        Some(mode) => Ok((ascii_text(alloc, mode)?, after)),
-        None => Err(bad_line(at)),
-    }
+    let (line, after) = due_line(at)?;
+    let mode = or_bad(mode_of(line), at)?;
+    Ok((ascii_text(alloc, mode)?, after))
 }
 
 fn verdict_of(line: &[u8]) -> Option<Verdict>
@@ -97,13 +90,8 @@ fn verdict_of(line: &[u8]) -> Option<Verdict>
 fn verdict_at(at: LineReader<'_>) -> Result<(Verdict, LineReader<'_>), ReportFault>
     ensures { Gives (λ x. (x.0, place x.1)) result (line_at result_in (place at.entry)) }
 {
-    let Some((line, after)) = line_of(at) else {
-        return Err(bad_line(at));
-    };
-    match verdict_of(line) {
-        Some(verdict) => Ok((verdict, after)),
-        None => Err(bad_line(at)),
-    }
+    let (line, after) = due_line(at)?;
+    Ok((or_bad(verdict_of(line), at)?, after))
 }
 
 /// The number of a line of a key and a number in the range.
@@ -132,72 +120,43 @@ fn number_at<'a>(
     ensures same { Gives (λ x. (x.0, place x.1)) result (line_at (numbered key.now least most) (place at.entry)) }
     ensures range { IfOk result (λ x. (least ≤ x.0) × (x.0 ≤ most)) }
 {
-    let Some((line, after)) = line_of(at) else {
-        return Err(bad_line(at));
-    };
-    match number_after(line, key, least, most) {
-        Some(n) => Ok((n, after)),
-        None => Err(bad_line(at)),
-    }
+    let (line, after) = due_line(at)?;
+    Ok((or_bad(number_after(line, key, least, most), at)?, after))
 }
 
-#[tactic(auto, unfolding(crate::specs::Reading::first_at))]
-fn first_of(
+/// The first twelve lines.
+#[tactic(auto, unfolding(crate::specs::Reading::head_at))]
+pub(crate) fn head_of(
     alloc: Global,
     at: LineReader<'_>,
-) -> Result<((Text, u32, u32, u32), LineReader<'_>), ReportFault>
-    ensures { Gives (λ x. ((tt, (x.0.0, (x.0.1, (x.0.2, x.0.3)))), place x.1)) result (first_at (place at.entry)) }
+) -> Result<(Head, LineReader<'_>), ReportFault>
+    ensures { Gives (λ x. (x.0, place x.1)) result (head_at (place at.entry)) }
 {
     let (_, at) = title_at(at)?;
     let (mode, at) = mode_at(alloc, at)?;
     let (states, at) = number_at(at, b"states", 1, 4097)?;
     let (classes, at) = number_at(at, b"classes", 1, 512)?;
     let (tests, at) = number_at(at, b"tests", 0, 256)?;
-    Ok(((mode, states as u32, classes as u32, tests as u32), at))
-}
-
-#[tactic(auto, unfolding(crate::specs::Reading::second_at))]
-fn second_of(at: LineReader<'_>) -> Result<((u64, Verdict, u64), LineReader<'_>), ReportFault>
-    ensures { Gives (λ x. ((x.0.0, (x.0.1, x.0.2)), place x.1)) result (second_at (place at.entry)) }
-{
     let (weight, at) = number_at(at, b"weight", 0, u64::MAX)?;
     let (verdict, at) = verdict_at(at)?;
     let (cost, at) = number_at(at, b"cost", 0, u64::MAX)?;
-    Ok(((weight, verdict, cost), at))
-}
-
-#[tactic(auto, unfolding(crate::specs::Reading::third_at))]
-fn third_of(at: LineReader<'_>) -> Result<((u64, u64, u32, u32), LineReader<'_>), ReportFault>
-    ensures { Gives (λ x. ((x.0.0, (x.0.1, (x.0.2, x.0.3))), place x.1)) result (third_at (place at.entry)) }
-{
     let (low, at) = number_at(at, b"low", 0, u64::MAX)?;
     let (gap, at) = number_at(at, b"gap", 0, u64::MAX)?;
     let (limit, at) = number_at(at, b"limit", 1, 32768)?;
     let (groups, at) = number_at(at, b"groups", 0, 32768)?;
-    Ok(((low, gap, limit as u32, groups as u32), at))
-}
-
-/// The first twelve lines.
-#[tactic(auto, unfolding(crate::specs::Reading::head_at))]
-pub fn head_of(alloc: Global, at: LineReader<'_>) -> Result<(Head, LineReader<'_>), ReportFault>
-    ensures { Gives (λ x. (x.0, place x.1)) result (head_at (place at.entry)) }
-{
-    let ((mode, states, classes, tests), at) = first_of(alloc, at)?;
-    let ((weight, verdict, cost), at) = second_of(at)?;
-    let ((low, gap, limit, groups), at) = third_of(at)?;
     Ok((
         Head {
             mode,
-            states,
-            classes,
-            tests,
+            states: states as u32,
+            classes: classes as u32,
+            tests: tests as u32,
             weight,
             verdict,
             cost,
             low,
             gap,
-            limit,
-            groups,
+            limit: limit as u32,
+            groups: groups as u32,
         },
         at,
     ))

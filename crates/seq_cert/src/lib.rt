@@ -7,6 +7,7 @@ mod both_ways;
 mod by_class;
 mod class_reader;
 mod classes;
+mod due_line;
 mod fault;
 mod group_reader;
 mod groups;

@@ -54,7 +54,7 @@ fn write_report(
     Ok(())
 }
 
-/// The text of the outcome's report. The work is linear in what is written.
+/// The text of the outcome's report. The work is linear in what is written, but for a sort of the group lines.
 pub fn report_of(
     alloc: Global,
     inst: &Instance,

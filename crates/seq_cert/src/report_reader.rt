@@ -2,27 +2,28 @@
 //! else the first line that is not of the form that its place asks. The bytes are read once from front to
 //! back, line by line, so the work is linear in them, and no room is taken by a number that was read.
 ghost use Rattle.std.specs.Prelude.{◌≡◌, ◌≤◌, length, IfOk, Ok};
-ghost use Rattle.sig_lines.specs.Pieces.{words_in};
+ghost use Rattle.sig_lines.specs.Pieces.{words_in, lines_in, tail_in};
 ghost use Rattle.sig_lines.specs.Reading.{line_at};
 ghost use Rattle.seq_cert.specs.LineForms.{end_in};
-ghost use Rattle.seq_cert.specs.Reading.{Gives, place, body_at, whole_at, report_at};
+ghost use Rattle.seq_cert.specs.Reading.{Gives, place, is_nothing, body_at, whole_at, report_at};
 ghost use Rattle.seq_cert.specs.ReportForm.{IsReport};
 ghost use Rattle.seq_cert.specs.Text.{report_lines, report_bytes};
 
 use crate::class_reader::classes_of;
+use crate::due_line::{due_line, or_bad};
 use crate::fault::{ReportFault, bad_line};
 use crate::group_reader::{groups_of, missed_at};
 use crate::head_reader::{Head, head_of};
 use crate::report::{ClassLine, GroupLine, MissedLine, Report, TreeLine};
 use crate::test_reader::tests_of;
 use crate::tree_reader::tree_of;
-use sig_lines::{LineReader, TestLabel, is_text, line_of, one_word};
+use sig_lines::{LineReader, TestLabel, is_text, lines_hold, one_word};
 use sig_types::List;
 use std::alloc::Global;
 
 /// What follows the first twelve lines.
 #[derive(Debug, Drop)]
-pub struct Body {
+pub(crate) struct Body {
     pub classes: List<ClassLine>,
     pub tests: List<TestLabel>,
     pub tree: List<TreeLine>,
@@ -44,13 +45,9 @@ fn is_end(line: &[u8]) -> Option<()>
 fn end_at(at: LineReader<'_>) -> Result<((), LineReader<'_>), ReportFault>
     ensures { Gives (λ x. (x.0, place x.1)) result (line_at end_in (place at.entry)) }
 {
-    let Some((line, after)) = line_of(at) else {
-        return Err(bad_line(at));
-    };
-    match is_end(line) {
-        Some(()) => Ok(((), after)),
-        None => Err(bad_line(at)),
-    }
+    let (line, after) = due_line(at)?;
+    or_bad(is_end(line), at)?;
+    Ok(((), after))
 }
 
 /// What follows the first lines, with the end.
@@ -107,7 +104,15 @@ fn whole_of<'a>(alloc: Global, at: LineReader<'a>) -> Result<(Report, LineReader
     Ok((report, at))
 }
 
-#[tactic(auto, unfolding(crate::specs::Reading::report_at), using(crate::proofs::Ends::nothing_left_is))]
+/// Whether nothing is left to read.
+fn is_at_end(at: LineReader<'_>) -> bool
+    ensures { result ≡ is_nothing (lines_in at.entry.rest.now) (tail_in at.entry.rest.now) }
+{
+    lines_hold();
+    at.rest.len() == 0
+}
+
+#[tactic(auto, unfolding(crate::specs::Reading::report_at))]
 fn all_of(alloc: Global, bytes: &[u8]) -> Result<Report, ReportFault>
     requires { length bytes.now ≤ 16777216 }
     ensures { Gives (λ x. x) result (report_at bytes.now) }
@@ -117,7 +122,7 @@ fn all_of(alloc: Global, bytes: &[u8]) -> Result<Report, ReportFault>
         number: 1,
     };
     let (report, at) = whole_of(alloc, at)?;
-    if at.rest.len() == 0 {
+    if is_at_end(at) {
         Ok(report)
     } else {
         Err(bad_line(at))
@@ -136,5 +141,6 @@ pub fn read_report(alloc: Global, bytes: &[u8]) -> Result<Report, ReportFault>
     // Which line is the first bad one.
     ensures exact { Gives (λ x. x) result (report_at bytes.now) }
 {
+    lines_hold();
     all_of(alloc, bytes)
 }

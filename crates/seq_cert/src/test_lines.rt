@@ -18,7 +18,7 @@ fn write_test(out: &mut Lines, number: usize, test: &TestLabel) -> Result<(), Al
 }
 
 /// Writes all tests.
-pub fn write_tests(out: &mut Lines, tests: &[TestLabel]) -> Result<(), AllocError>
+pub(crate) fn write_tests(out: &mut Lines, tests: &[TestLabel]) -> Result<(), AllocError>
     ensures { OnOk result (out.new ≡ with_lines out.old (test_lines 0 tests.now)) }
 {
     for number in 0..tests.len() {

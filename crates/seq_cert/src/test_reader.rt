@@ -6,9 +6,10 @@ ghost use Rattle.sig_lines.specs.Reading.{line_at};
 ghost use Rattle.seq_cert.specs.LineForms.{test_in};
 ghost use Rattle.seq_cert.specs.Reading.{Gives, place, lines_at};
 
-use crate::fault::{ReportFault, bad_line};
+use crate::due_line::{due_line, or_bad};
+use crate::fault::ReportFault;
 use crate::words::{is_label, is_number};
-use sig_lines::{LineReader, TestLabel, ascii_text, four_words, is_text, line_of, number_between};
+use sig_lines::{LineReader, TestLabel, ascii_text, four_words, is_text, number_between};
 use sig_types::List;
 use std::alloc::Global;
 
@@ -33,23 +34,19 @@ fn test_at(
 ) -> Result<(TestLabel, LineReader<'_>), ReportFault>
     ensures { Gives (λ x. (x.0, place x.1)) result (line_at (test_in k) (place at.entry)) }
 {
-    let Some((line, after)) = line_of(at) else {
-        return Err(bad_line(at));
-    };
-    match test_of(k, line) {
-        Some((cost, label)) => Ok((
-            TestLabel {
-                cost,
-                label: ascii_text(alloc, label)?,
-            },
-            after,
-        )),
-        None => Err(bad_line(at)),
-    }
+    let (line, after) = due_line(at)?;
+    let (cost, label) = or_bad(test_of(k, line), at)?;
+    Ok((
+        TestLabel {
+            cost,
+            label: ascii_text(alloc, label)?,
+        },
+        after,
+    ))
 }
 
 /// So many test lines.
-pub fn tests_of(
+pub(crate) fn tests_of(
     alloc: Global,
     count: u32,
     start: LineReader<'_>,

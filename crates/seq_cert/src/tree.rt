@@ -42,7 +42,7 @@ fn write_leaf(out: &mut Lines, class: u32) -> Result<(), AllocError>
 
 /// Writes the strategy from the group on: a test, what follows for the part that passes, and then what
 /// follows for the part that fails.
-pub fn write_tree(
+pub(crate) fn write_tree(
     out: &mut Lines,
     inst: &Instance,
     strategy: &Strategy,

@@ -5,9 +5,10 @@ ghost use Rattle.sig_lines.specs.Pieces.{words_in};
 ghost use Rattle.seq_cert.specs.LineForms.{is_tree_line, tree_line_in};
 ghost use Rattle.seq_cert.specs.Reading.{Gives, place, asks_after, tree_at};
 
-use crate::fault::{ReportFault, bad_line};
+use crate::due_line::or_bad;
+use crate::fault::ReportFault;
 use crate::report::TreeLine;
-use sig_lines::{LineReader, cut, is_text, line_of, number_between, two_words};
+use sig_lines::{LineReader, first_word, is_text, line_of, number_between, two_words};
 use sig_types::List;
 use std::alloc::Global;
 
@@ -32,14 +33,11 @@ fn tree_line_of(line: &[u8]) -> Option<TreeLine>
 }
 
 /// Whether the first word is `ask` or `leaf`.
-#[tactic(auto, using(crate::proofs::TreeWords::first_cut, crate::proofs::TreeWords::first_whole))]
 fn is_tree(line: &[u8]) -> bool
     ensures { result ≡ is_tree_line (words_in line.now) }
 {
-    match cut(line, b' ') {
-        Some((first, _)) => is_text(first, b"ask") || is_text(first, b"leaf"),
-        None => is_text(line, b"ask") || is_text(line, b"leaf"),
-    }
+    let first = first_word(line);
+    is_text(first, b"ask") || is_text(first, b"leaf")
 }
 
 /// How many asks are left after a tree line.
@@ -54,7 +52,7 @@ fn asks_left(asks: u32, line: TreeLine) -> Option<u32>
 }
 
 /// The tree lines, up to the first line of another kind.
-pub fn tree_of(
+pub(crate) fn tree_of(
     alloc: Global,
     start: LineReader<'_>,
 ) -> Result<(List<TreeLine>, LineReader<'_>), ReportFault>
@@ -70,12 +68,8 @@ pub fn tree_of(
         if !is_tree(line) {
             return Ok((lines, at));
         }
-        let Some(node) = tree_line_of(line) else {
-            return Err(bad_line(at));
-        };
-        let Some(left) = asks_left(asks, node) else {
-            return Err(bad_line(at));
-        };
+        let node = or_bad(tree_line_of(line), at)?;
+        let left = or_bad(asks_left(asks, node), at)?;
         lines.push(node)?;
         at = after;
         asks = left;

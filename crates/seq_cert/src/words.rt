@@ -1,7 +1,7 @@
 //! What a word of a line may be: a label, a mode, or the number of the line.
 ghost use Rattle.std.specs.Prelude.{◌≡◌, decimal};
 ghost use Rattle.std.specs.List.{list_all};
-ghost use Rattle.sig_lines.specs.Pieces.{same_text};
+ghost use Rattle.std.specs.Str.{bytes_eq};
 ghost use Rattle.sig_types.specs.NameText.{is_name};
 ghost use Rattle.seq_cert.specs.LineForms.{is_in, is_label, is_mode};
 
@@ -27,7 +27,7 @@ fn are_label_bytes(label: &[u8]) -> bool
 }
 
 /// One or more bytes from 0x21 to 0x7e.
-pub fn is_label(label: &[u8]) -> bool
+pub(crate) fn is_label(label: &[u8]) -> bool
     ensures { result ≡ is_label label.now }
 {
     label.len() != 0 && are_label_bytes(label)
@@ -43,15 +43,15 @@ fn is_name(word: &[u8]) -> bool
 }
 
 /// A name, or `-`.
-pub fn is_mode(mode: &[u8]) -> bool
+pub(crate) fn is_mode(mode: &[u8]) -> bool
     ensures { result ≡ is_mode mode.now }
 {
     is_text(mode, b"-") || is_name(mode)
 }
 
 /// Whether the word writes the number.
-pub fn is_number(word: &[u8], n: u32) -> bool
-    ensures { result ≡ same_text word.now (decimal n) }
+pub(crate) fn is_number(word: &[u8], n: u32) -> bool
+    ensures { result ≡ bytes_eq word.now (decimal n) }
 {
     match number_of(word) {
         Some(m) => m == u64::from(n),

@@ -1,7 +1,7 @@
 -- Looks at what a report says of the model: its mode, counts, weights and labels.
 use Rattle.std.specs.Prelude.{ℕ, ◌+◌, Bool, false, ◌&&◌, nat_eq, nat_lt, List, [], ◌∷◌, ◌++◌, length, filter}
 use Rattle.seq_theory.specs.Problem.{Problem, all_classes, weight_of}
-use Rattle.sig_lines.specs.Pieces.{same_text}
+use Rattle.std.specs.Str.{bytes_eq}
 use Rattle.sig_lines.specs.declared.labels.Labels.{Labels}
 use Rattle.sig_lines.specs.declared.labels.StateLabel.{StateLabel}
 use Rattle.sig_lines.specs.declared.labels.TestLabel.{TestLabel}
@@ -15,7 +15,7 @@ use Rattle.seq_check.specs.Looks.{Look, look}
 -- the mode and the counts
 unfoldable pub model_looks : Problem → Labels → Report → List Look
 model_looks p labels r =
-    look 2 C02 (same_text r.mode labels.mode)
+    look 2 C02 (bytes_eq r.mode labels.mode)
     ∷ look 3 C02 (nat_eq r.states (length labels.states))
     ∷ look 4 C02 (nat_eq r.classes p.classes)
     ∷ look 5 C02 (nat_eq r.tests p.tests)
@@ -38,11 +38,11 @@ side_looks same n items (line ∷ lines) = look n C02 (has_line same items line)
 
 -- whether the line is that of the state
 abbrev pub is_state : StateLabel → StateLine → Bool
-is_state s line = nat_eq line.weight s.weight && same_text line.label s.label
+is_state s line = nat_eq line.weight s.weight && bytes_eq line.label s.label
 
 -- whether the line is that of the test
 abbrev pub is_test : TestLabel → TestLabel → Bool
-is_test t line = nat_eq line.cost t.cost && same_text line.label t.label
+is_test t line = nat_eq line.cost t.cost && bytes_eq line.label t.label
 
 -- a class line with its state lines, from a line on
 unfoldable pub class_look : Problem → List StateLabel → ℕ → ℕ → ClassLine → List Look

@@ -1,6 +1,6 @@
 //! One look at a line, and texts compared.
 ghost use Rattle.std.specs.Prelude.{◌≡◌, ◌∷◌, []};
-ghost use Rattle.sig_lines.specs.Pieces.{same_text};
+ghost use Rattle.std.specs.Str.{bytes_eq};
 ghost use Rattle.seq_check.specs.Looks.{look, first_bad};
 
 use seq_cert::{BadCode, BadLine};
@@ -20,7 +20,7 @@ pub fn look(line: u32, code: BadCode, good: bool) -> Option<BadLine>
 
 /// Whether two texts are the same.
 pub fn is_same_text(a: &Text, b: &Text) -> bool
-    ensures { result ≡ same_text a.now b.now }
+    ensures { result ≡ bytes_eq a.now b.now }
 {
     is_text(a.as_str().as_bytes(), b.as_str().as_bytes())
 }

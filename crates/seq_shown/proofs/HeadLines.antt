@@ -25,12 +25,27 @@ use Rattle.seq_finish.specs.Outcomes.{IsRightOutcome}
 use Rattle.sig_lines.specs.declared.labels.Labels.{Labels}
 use Rattle.seq_cert.specs.OutcomeReport.{report_from}
 use Rattle.seq_cert.specs.TreeLines.{tree_lines}
-use Rattle.seq_cert.proofs.OrderLaws.{groups_counted}
+use Rattle.seq_cert.specs.declared.report.GroupLine.{GroupLine}
+use Rattle.seq_cert.specs.Order.{placed, ordered, is_before, in_order}
+use Rattle.seq_cert.specs.OutcomeReport.{row_line}
 use Rattle.seq_check.specs.Looks.{AreGood, all_good}
 use Rattle.seq_check.specs.TreesIn.{tree_in}
 use Rattle.seq_check.specs.Lines.{tree_at, looks_at_tree, cost_looks, low_looks, is_gap, is_count, gap_looks, count_looks}
 use Rattle.seq_shown.proofs.NeededTests.{AsksWhereNeeded, strat-needed}
 use Rattle.seq_shown.proofs.DrawnLines.{tree-good, tree-drawn}
+
+-- there are as many group lines as rows
+length-placed : (x : GroupLine) (xs : List GroupLine) → length (placed is_before x xs) ≡ suc (length xs)
+length-placed x [] = refl
+length-placed x (y ∷ ys) = elim (cases_Bool (is_before y x)) [
+  | inl later ↦ rw later (ap suc (length-placed x ys))
+  | inr sooner ↦ rw sooner refl
+]
+
+groups_counted : (rows : List Row) → length (in_order (map row_line rows)) ≡ length rows
+unfolding in_order
+groups_counted [] = refl
+groups_counted (r ∷ rows) = length-placed (row_line r) (ordered is_before (map row_line rows)) ∙ ap suc (groups_counted rows)
 
 pub within-all : (p : Problem) → IsWithin p (all_classes p)
 within-all p c i = let h = count_up-IsIn c 0 p.classes i in omega arith

@@ -10,4 +10,3 @@ pub mod HeadLines
 pub mod MissedLine
 pub mod Reports
 pub mod Printing
-pub mod LabelWords

@@ -4,7 +4,7 @@ use Rattle.std.proofs.Common.{◌≡◌, ℕ, zero, suc, ◌+◌, ◌<◌, ◌�
 use Rattle.std.specs.Prelude.{Bool, true, nat_eq, nat_lt, ◌&&◌}
 use Rattle.std.proofs.lemmas.Bool.{and_from, eq-eqb, lt-ltb}
 use Rattle.seq_theory.specs.Problem.{Problem, count_up, all_classes, weight_of}
-use Rattle.sig_lines.specs.Pieces.{same_text}
+use Rattle.std.specs.Str.{bytes_eq}
 use Rattle.sig_lines.specs.declared.labels.Labels.{Labels}
 use Rattle.sig_lines.specs.declared.labels.StateLabel.{StateLabel}
 use Rattle.sig_lines.specs.declared.labels.TestLabel.{TestLabel}
@@ -14,9 +14,9 @@ use Rattle.seq_check.specs.Looks.{AreGood}
 use Rattle.seq_check.specs.ModelLooks.{model_looks, side_looks, is_state, is_test, class_look, class_looks, test_looks}
 use Rattle.seq_shown.proofs.GoodLooks.{good-both}
 
-same_text-refl : (text : List ℕ) → same_text text text ≡ true
+same_text-refl : (text : List ℕ) → bytes_eq text text ≡ true
 same_text-refl [] = refl
-same_text-refl (c ∷ text) = and_from (nat_eq c c) (same_text text text) (eq-eqb c c refl) (same_text-refl text)
+same_text-refl (c ∷ text) = and_from (nat_eq c c) (bytes_eq text text) (eq-eqb c c refl) (same_text-refl text)
 
 same_number : (n : ℕ) → nat_eq n n ≡ true
 same_number n = eq-eqb n n refl
@@ -31,10 +31,10 @@ copied-good same each n [] = tt
 copied-good same each n (x ∷ xs) = (each x, copied-good same each (n + 1) xs)
 
 state-good : (s : StateLabel) → is_state s (state_line s) ≡ true
-state-good s = and_from (nat_eq s.weight s.weight) (same_text s.label s.label) (same_number s.weight) (same_text-refl s.label)
+state-good s = and_from (nat_eq s.weight s.weight) (bytes_eq s.label s.label) (same_number s.weight) (same_text-refl s.label)
 
 test-good : (t : TestLabel) → is_test t t ≡ true
-test-good t = and_from (nat_eq t.cost t.cost) (same_text t.label t.label) (same_number t.cost) (same_text-refl t.label)
+test-good t = and_from (nat_eq t.cost t.cost) (bytes_eq t.label t.label) (same_number t.cost) (same_text-refl t.label)
 
 length-lines : (states : List StateLabel) → length (map state_line states) ≡ length states
 length-lines [] = refl

@@ -10,7 +10,7 @@ use Rattle.seq_theory.specs.Graph.{val, value_test, strat}
 use Rattle.seq_theory.proofs.GroupLaws.{pass_part_smaller, fail_part_smaller}
 use Rattle.seq_theory.proofs.GreedyLaws.{greedy_test_splits, greedy-end, greedy-more, part-within}
 use Rattle.seq_theory.proofs.PartsRecursion.{splitting-splits, splitting-there}
-use Rattle.seq_finish.proofs.StratLaws.{value_parts, strat-end, strat-greedy, strat-ask}
+use Rattle.seq_theory.proofs.StratParts.{value_parts, strat-end, strat-greedy, strat-ask}
 
 module _ (p : Problem) where
   -- a leaf at a group of one goal, and at any other a test that is there and splits it

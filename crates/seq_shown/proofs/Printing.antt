@@ -10,15 +10,14 @@ use Rattle.seq_inst.specs.declared.outcome.Verdict.{Verdict}
 use Rattle.seq_inst.specs.declared.outcome.Verdict.TheVariants.{Optimal, Bounded}
 use Rattle.seq_inst.specs.Shapes.{leaf_count, AsksSplitting}
 use Rattle.seq_inst.specs.Trees.{tree_of}
-use Rattle.seq_inst.proofs.ShapeLaws.{leaves-le}
+use Rattle.seq_theory.proofs.ShapeLaws.{leaves-le}
 use Rattle.seq_core.specs.Settled.{groups_in}
 use Rattle.seq_core.specs.Entered.{IsFull, IsMissed}
 use Rattle.seq_finish.specs.Outcomes.{IsRightOutcome}
-use Rattle.seq_finish.proofs.StratLaws.{strat-splitting}
+use Rattle.seq_theory.proofs.StratParts.{strat-splitting}
 use Rattle.seq_cert.specs.Printable.{IsMissedAt}
-use Rattle.seq_cert.proofs.WrittenForm.{written_form}
-use Rattle.seq_shown.specs.Laws.{OutcomesFit, OutcomesPrint, FormsHold}
-use Rattle.seq_shown.proofs.HeadLines.{within-all, low-cost}
+use Rattle.seq_shown.specs.Laws.{OutcomesPrint}
+use Rattle.seq_shown.proofs.HeadLines.{within-all}
 use Rattle.seq_shown.proofs.WholeGroup.{length-classes}
 
 -- a group was missed exactly where the result is bounded
@@ -41,14 +40,6 @@ leaves-few p limit o told some right =
     let few = leaves-le p (tree_of o.strategy) (all_classes p) splitting (omega arith) in
     omega arith
 
-asks-there : (p : Problem) (limit : ℕ) (o : Outcome) → AreTold p → IsRightOutcome p limit o → AsksOnly p.tests (tree_of o.strategy)
-asks-there p limit o told right =
-    let h = strat-holds p (groups_in o.rows.items) (all_classes p) o.cost told (within-all p) right.cost_is in
-    subst (λ t. AsksOnly p.tests t) (sym right.strategy_is) (h.solves).there
-
-pub outcomes_fit : OutcomesFit
-outcomes_fit p limit o w told right = record { there = asks-there p limit o told right; ordered = low-cost p limit o told right w }
-
 pub outcomes_print : OutcomesPrint
 outcomes_print p labels limit o told classes room fits right =
     let rows = (right.entered).few in
@@ -65,8 +56,3 @@ outcomes_print p labels limit o told classes room fits right =
       leaves = omega arith;
       missed = missed-at p limit (groups_in o.rows.items) o.verdict o.missed right.none_missed right.full;
     }
-
-pub forms_hold : FormsHold
-forms_hold p labels limit o sized w told some few room are fits numbers right =
-    written_form p o labels sized w some few are (asks-there p limit o told right) numbers
-    (outcomes_print p labels limit o told (some, sized.classes) room fits right)

@@ -5,7 +5,8 @@ use Rattle.std.specs.Prelude.{Bool}
 use Rattle.std.proofs.lemmas.Bool.{cases_Bool}
 use Rattle.seq_theory.specs.Problem.{Problem, IsIn, IsWithin, count_up, all_classes}
 use Rattle.seq_inst.specs.declared.group.Group.{Group}
-use Rattle.seq_inst.specs.Members.{has_class, members_below, members}
+use Rattle.seq_theory.specs.Below.{passing_below}
+use Rattle.seq_inst.specs.Members.{has_class, members}
 
 -- the numbers stand upwards, from a first one on
 abbrev AreUpFrom : ℕ → List ℕ → Type 0
@@ -43,7 +44,7 @@ dense k (x ∷ xs) up below =
     ap (λ n. n ∷ xs) same ∙ ap (λ l. k ∷ l) rest
 
 up-members : (g : Group) → AreUpFrom 0 (members g)
-unfolding members_below
+unfolding passing_below
 up-members g = up-filter (has_class g) 0 512
 
 pub whole-group : (p : Problem) (g : Group) → IsWithin p (members g) → p.classes ≤ length (members g) → members g ≡ all_classes p

@@ -38,28 +38,7 @@ abbrev pub ReportsHold : Type 0
 ReportsHold = (p : Problem) (labels : Labels) (limit : ℕ) (o : Outcome) → IsWeighed p → AreTold p → IsRightOutcome p limit o
     → IsReport (report_from p o labels) → IsAccepted p labels (report_from p o labels)
 
--- what a writer of reports asks of an outcome: the strategy asks tests that are there, and the low is no more than the cost
-pub record IsProper (p : Problem) (o : Outcome) : Type 0 where
-  pub there : AsksOnly p.tests (tree_of o.strategy)
-  pub ordered : o.low ≤ o.cost
-
--- a right outcome is one that a writer takes
-abbrev pub OutcomesFit : Type 0
-OutcomesFit = (p : Problem) (limit : ℕ) (o : Outcome) → IsWeighed p → AreTold p → IsRightOutcome p limit o → IsProper p o
-
 -- a right outcome is printable where its labels are
 abbrev pub OutcomesPrint : Type 0
 OutcomesPrint = (p : Problem) (labels : Labels) (limit : ℕ) (o : Outcome) → AreTold p → InRange 1 512 p.classes → InRange 1 32768 limit
     → ArePrintable labels → IsRightOutcome p limit o → IsPrintable o labels
-
--- the report of a right outcome has the form of a report where its labels are printable and its numbers fit their words
-abbrev pub FormsHold : Type 0
-FormsHold = (p : Problem) (labels : Labels) (limit : ℕ) (o : Outcome) → IsSized p → IsWeighed p → AreTold p → 1 ≤ p.classes → p.tests ≤ 256
-    → InRange 1 32768 limit → AreLabelsOf p labels → ArePrintable labels → AreNumbers o → IsRightOutcome p limit o → IsReport (report_from p o labels)
-
--- a name is a label, and two labels put together are one
-abbrev pub NamesPrint : Type 0
-NamesPrint = (name : List ℕ) → is_name name ≡ true → is_label name ≡ true
-
-abbrev pub JoinsPrint : Type 0
-JoinsPrint = (a b : List ℕ) → is_label a ≡ true → is_label b ≡ true → is_label (a ++ b) ≡ true

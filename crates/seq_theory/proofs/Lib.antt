@@ -24,7 +24,9 @@ pub mod StatesLaws
 pub mod NumberingLaws
 pub mod PassageProofs
 pub mod BelowLaws
+pub mod ByNumberLaws
 pub mod ShapeLaws
 pub mod CountedLaws
 pub mod GreedyParts
+pub mod StratParts
 pub mod RecursionProofs

@@ -13,11 +13,11 @@ use Rattle.seq_theory.proofs.GreedyLaws.{greedy-solves, part-within, solves-leaf
 use Rattle.seq_theory.proofs.ValLaws.{IsLeastValue, is_first, is_at, least_value, HasParts, sum_with-parts, val-end, val-entered, val-other}
 
 -- the first that passes is in the list and passes
-record Finds (f : ℕ → Bool) (xs : List ℕ) (t : ℕ) : Type 0 where
+pub record Finds (f : ℕ → Bool) (xs : List ℕ) (t : ℕ) : Type 0 where
   pub among : IsIn t xs
   pub passes : f t ≡ true
 
-first_where-finds : (f : ℕ → Bool) (u : ℕ) (xs : List ℕ) → IsIn u xs → f u ≡ true → Finds f xs (first_where f xs)
+pub first_where-finds : (f : ℕ → Bool) (u : ℕ) (xs : List ℕ) → IsIn u xs → f u ≡ true → Finds f xs (first_where f xs)
 first_where-finds f u [] i e = absurd i
 first_where-finds f u (x ∷ xs) i e = go (f x) refl i (λ j. first_where-finds f u xs j e)
   where
@@ -26,11 +26,11 @@ first_where-finds f u (x ∷ xs) i e = go (f x) refl i (λ j. first_where-finds 
     go false n (inl s) later = absurd (true≢false (sym e ∙ sym (ap f s) ∙ n))
     go false n (inr i) later = let r = later i in record { among = inr r.among; passes = r.passes }
 
-value-is : (a : Option ℕ) (v : ℕ) → is_value a (Some v) ≡ true → a ≡ Some v
+pub value-is : (a : Option ℕ) (v : ℕ) → is_value a (Some v) ≡ true → a ≡ Some v
 value-is None v e = absurd (false≢true e)
 value-is (Some x) v e = ap (λ n. Some n) (eqb-true x v e)
 
-is-value : (a : Option ℕ) (v : ℕ) → a ≡ Some v → is_value a (Some v) ≡ true
+pub is-value : (a : Option ℕ) (v : ℕ) → a ≡ Some v → is_value a (Some v) ≡ true
 is-value None v e = absurd (let h : ⊥ = cc in h)
 is-value (Some x) v e = eq-eqb x v (let s : x ≡ v = cc in s)
 
@@ -46,7 +46,7 @@ module _ (p : Problem) (entered : List (List ℕ)) where
     pub among : IsIn t (splitting p group)
     pub parts : HasParts (p.cost t * weight_of p group) (val p entered (pass_part p t group)) (val p entered (fail_part p t group)) v
 
-  entered-value : (group : List ℕ) (v : ℕ) → is_end p group ≡ false → val p entered group ≡ Some v → IsLeastValue (greedy_cost p group) (step_value p (val p entered) group) (splitting p group) v
+  pub entered-value : (group : List ℕ) (v : ℕ) → is_end p group ≡ false → val p entered group ≡ Some v → IsLeastValue (greedy_cost p group) (step_value p (val p entered) group) (splitting p group) v
   entered-value group v e is = elim (cases_Bool (is_entered entered group)) [
     | inl i ↦ subst (IsLeastValue (greedy_cost p group) (step_value p (val p entered) group) (splitting p group)) (some-one _ v (val p entered group) (val-entered p entered group e i) is) (least_value (greedy_cost p group) (step_value p (val p entered) group) (splitting p group))
     | inr i ↦ absurd (let f = val-other p entered group e i in let h : ⊥ = cc in h)

@@ -1,6 +1,6 @@
 -- The states of a system under test, the rows of its matrix, and its ambiguity groups.
-use Rattle.std.specs.Prelude.{◌≡◌, ℕ, ◌<◌, Bool, true, false, not, nat_eq, List, filter, map, length}
-use Rattle.std.specs.List.{list_all}
+use Rattle.std.specs.Prelude.{◌≡◌, ℕ, ◌<◌, Bool, true, false, not, ◌&&◌, nat_eq, nat_lt, List, filter, map, length}
+use Rattle.std.specs.List.{list_all, list_any}
 use Rattle.seq_theory.specs.Problem.{Problem, count_up, weight_of}
 use Rattle.seq_theory.specs.Graph.{first_where}
 
@@ -59,3 +59,15 @@ pub record IsOfClasses (sys : System) (p : Problem) : Type 0 where
   pub cost : (t : ℕ) → t < p.tests → p.cost t ≡ sys.cost t
   pub passes : (t s : ℕ) → t < sys.tests → s < sys.states → p.passes t (class_of sys s) ≡ not (sys.fails s t)
   pub goal : (c : ℕ) → c < p.classes → p.goal c ≡ c
+
+-- the one such problem: a group weighs what its states weigh together, and passes a test of the system that some state
+-- of it passes, since then each does; past groups and tests nothing weighs or passes
+abbrev pub problem_of_classes : System → Problem
+problem_of_classes sys = record {
+  classes = length (firsts sys);
+  tests = sys.tests;
+  weight = λ c. weight_of (state_problem sys) (filter (λ s. nat_eq (class_of sys s) c) (count_up 0 sys.states));
+  cost = sys.cost;
+  passes = λ t c. nat_lt t sys.tests && list_any (λ s. nat_eq (class_of sys s) c && not (sys.fails s t)) (count_up 0 sys.states);
+  goal = λ c. c;
+}

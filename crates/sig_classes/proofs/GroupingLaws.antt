@@ -15,13 +15,12 @@ use Rattle.seq_theory.specs.States.{System, same_row, is_first, first_alike, cla
 use Rattle.seq_theory.proofs.StatesLaws.{count_up-last, begun, begun-yes, begun-no, begun-below, class_of-begun, first_alike-is_first}
 use Rattle.seq_theory.proofs.NumberingLaws.{first_alike-le, number-class, seen-more}
 use Rattle.sig_matrix.specs.declared.matrix.Matrix.{Matrix}
-use Rattle.sig_matrix.specs.Detection.{before_faults, state_count, state_weight, system_of}
+use Rattle.sig_matrix.specs.Detection.{before_faults, state_count, state_weight, system_of, state_row, AreFourWords}
 use Rattle.sig_matrix.specs.Valid.{IsValid}
 use Rattle.sig_classes.specs.declared.classes.Classes.{Classes}
 use Rattle.sig_classes.specs.Classes.{class_weight, AreClassesOf}
 use Rattle.sig_classes.specs.Grouping.{with_weight}
-use Rattle.sig_classes.specs.States.{row_words, AreFourWords}
-use Rattle.sig_classes.proofs.CountLaws.{by_number_more, by_number-from_items}
+use Rattle.seq_theory.proofs.ByNumberLaws.{length-by_number, get_or-by_number, by_number_more, by_number-from_items}
 use Rattle.sig_classes.proofs.RowWordsLaws.{words-decide}
 
 module _ (sys : System) where
@@ -154,8 +153,8 @@ module _ (sys : System) where
 
 -- the states below a number are in their classes
 pub record Grouped (matrix : Matrix) (m : ℕ) (keys : List (List ℕ)) (classes weights : List ℕ) : Type 0 where
-  pub words : (s : ℕ) → s < m → AreFourWords (row_words matrix s)
-  pub known : keys ≡ map (row_words matrix) (filter (is_first (system_of matrix)) (count_up 0 m))
+  pub words : (s : ℕ) → s < m → AreFourWords (state_row matrix s)
+  pub known : keys ≡ map (state_row matrix) (filter (is_first (system_of matrix)) (count_up 0 m))
   pub groups : classes ≡ map (class_of (system_of matrix)) (count_up 0 m)
   pub summed : Summed (system_of matrix) m weights
 
@@ -169,20 +168,17 @@ module _ (matrix : Matrix) (valid : IsValid matrix) where
     | inr faulty ↦ (let after = ltb-false s (before_faults matrix) faulty in rw faulty (valid.weights (s - before_faults matrix) (omega arith)).1)
   ]
 
-  pub few : state_count matrix ≤ 4097
-  few = let faults = valid.faults in elim (cases_Bool (nat_eq matrix.good 0)) [ inl none ↦ rw none (omega arith) | inr some ↦ rw some (omega arith) ]
-
   module _ (m : ℕ) (lt : m < state_count matrix) (keys : List (List ℕ)) (classes weights : List ℕ) (before : Grouped matrix m keys classes weights) where
     pub grouped-few : length keys < 2 ^ 32
     grouped-few =
-        let long = ap length before.known ∙ length-map (filter (is_first sys) (count_up 0 m)) (row_words matrix) in
+        let long = ap length before.known ∙ length-map (filter (is_first sys) (count_up 0 m)) (state_row matrix) in
         let le = begun-le sys m in
-        let most = few in
+        let most = valid.many in
         omega arith
 
     pub grouped-room : (c weight : ℕ) → weight ≡ state_weight matrix m → get_or weights c 0 + weight < 2 ^ 64
     grouped-room c weight e =
-        let most = few in
+        let most = valid.many in
         let own = light m lt in
         let sum = weight_below-le sys 1000000 m c light (omega arith) in
         elim (cases_lt c (length weights)) [
@@ -190,23 +186,23 @@ module _ (matrix : Matrix) (valid : IsValid matrix) where
           | inr past ↦ (let h = get_or_past weights c 0 past in omega arith)
         ]
 
-    module _ (here : AreFourWords (row_words matrix m)) where
-      words_upto : (s : ℕ) → s < suc m → AreFourWords (row_words matrix s)
+    module _ (here : AreFourWords (state_row matrix m)) where
+      words_upto : (s : ℕ) → s < suc m → AreFourWords (state_row matrix s)
       words_upto s l = elim (cases_lt s m) [
         | inl below ↦ before.words s below
-        | inr ge ↦ (let e : m ≡ s = omega arith in subst (λ k. AreFourWords (row_words matrix k)) e here)
+        | inr ge ↦ (let e : m ≡ s = omega arith in subst (λ k. AreFourWords (state_row matrix k)) e here)
       ]
 
-      decides : (a b : ℕ) → a < suc m → b < suc m → bytes_eq (row_words matrix a) (row_words matrix b) ≡ same_row sys a b
+      decides : (a b : ℕ) → a < suc m → b < suc m → bytes_eq (state_row matrix a) (state_row matrix b) ≡ same_row sys a b
       decides a b la lb = words-decide matrix valid a b (omega arith) (omega arith) (words_upto a la) (words_upto b lb)
 
-      place : position_or_len (bytes_eq (row_words matrix m)) keys ≡ class_of sys m
-      place = ap (position_or_len (bytes_eq (row_words matrix m))) before.known ∙ number-class sys bytes_eq (row_words matrix) (suc m) lt decides m (omega arith)
+      place : position_or_len (bytes_eq (state_row matrix m)) keys ≡ class_of sys m
+      place = ap (position_or_len (bytes_eq (state_row matrix m))) before.known ∙ number-class sys bytes_eq (state_row matrix) (suc m) lt decides m (omega arith)
 
-      seen_more : insert_key bytes_eq keys (row_words matrix m) ≡ map (row_words matrix) (filter (is_first sys) (count_up 0 (suc m)))
-      seen_more = ap (λ l. insert_key bytes_eq l (row_words matrix m)) before.known ∙ seen-more sys bytes_eq (row_words matrix) (suc m) lt decides m (omega arith)
+      seen_more : insert_key bytes_eq keys (state_row matrix m) ≡ map (state_row matrix) (filter (is_first sys) (count_up 0 (suc m)))
+      seen_more = ap (λ l. insert_key bytes_eq l (state_row matrix m)) before.known ∙ seen-more sys bytes_eq (state_row matrix) (suc m) lt decides m (omega arith)
 
-      next : Grouped matrix (suc m) (insert_key bytes_eq keys (row_words matrix m)) (classes ++ position_or_len (bytes_eq (row_words matrix m)) keys ∷ []) (with_weight weights (position_or_len (bytes_eq (row_words matrix m)) keys) (state_weight matrix m))
+      next : Grouped matrix (suc m) (insert_key bytes_eq keys (state_row matrix m)) (classes ++ position_or_len (bytes_eq (state_row matrix m)) keys ∷ []) (with_weight weights (position_or_len (bytes_eq (state_row matrix m)) keys) (state_weight matrix m))
       next = record {
         words = words_upto;
         known = seen_more;
@@ -214,26 +210,33 @@ module _ (matrix : Matrix) (valid : IsValid matrix) where
         summed = subst (λ k. Summed sys (suc m) (with_weight weights k (state_weight matrix m))) (sym place) (sums-more sys m lt weights before.summed);
       }
 
-    pub grouped-more : (row : List ℕ) (weight : ℕ) (keys' : List (List ℕ)) (classes' weights' : List ℕ) → row ≡ row_words matrix m → weight ≡ state_weight matrix m → AreFourWords row
+    pub grouped-more : (row : List ℕ) (weight : ℕ) (keys' : List (List ℕ)) (classes' weights' : List ℕ) → row ≡ state_row matrix m → weight ≡ state_weight matrix m → AreFourWords row
         → keys' ≡ insert_key bytes_eq keys row → classes' ≡ classes ++ position_or_len (bytes_eq row) keys ∷ [] → weights' ≡ with_weight weights (position_or_len (bytes_eq row) keys) weight
         → Grouped matrix (m + 1) keys' classes' weights'
     grouped-more row weight keys' classes' weights' is_row is_weight four is_keys is_classes is_weights =
         let one : suc m ≡ m + 1 = omega arith in
         let keys-are = is_keys ∙ ap (insert_key bytes_eq keys) is_row in
         let classes-are = is_classes ∙ ap (λ r. classes ++ position_or_len (bytes_eq r) keys ∷ []) is_row in
-        let weights-are = is_weights ∙ ap (λ r. with_weight weights (position_or_len (bytes_eq r) keys) weight) is_row ∙ ap (with_weight weights (position_or_len (bytes_eq (row_words matrix m)) keys)) is_weight in
+        let weights-are = is_weights ∙ ap (λ r. with_weight weights (position_or_len (bytes_eq r) keys) weight) is_row ∙ ap (with_weight weights (position_or_len (bytes_eq (state_row matrix m)) keys)) is_weight in
         subst (λ n. Grouped matrix n keys' classes' weights') one
         (subst (λ k. Grouped matrix (suc m) k classes' weights') (sym keys-are)
-        (subst (λ l. Grouped matrix (suc m) (insert_key bytes_eq keys (row_words matrix m)) l weights') (sym classes-are)
-        (subst (λ w. Grouped matrix (suc m) (insert_key bytes_eq keys (row_words matrix m)) (classes ++ position_or_len (bytes_eq (row_words matrix m)) keys ∷ []) w) (sym weights-are)
+        (subst (λ l. Grouped matrix (suc m) (insert_key bytes_eq keys (state_row matrix m)) l weights') (sym classes-are)
+        (subst (λ w. Grouped matrix (suc m) (insert_key bytes_eq keys (state_row matrix m)) (classes ++ position_or_len (bytes_eq (state_row matrix m)) keys ∷ []) w) (sym weights-are)
         (next (subst AreFourWords is_row four)))))
 
   -- once all states are in their classes
   pub grouped-all : (m : ℕ) → m ≡ state_count matrix → (keys : List (List ℕ)) (classes : Classes) → Grouped matrix m keys classes.class_of.items classes.weights.items → AreClassesOf sys classes
   grouped-all m e keys classes whole = record {
-    groups = whole.groups ∙ ap (λ n. map (class_of sys) (count_up 0 n)) e;
+    groups = groups;
+    at = λ s lt. ap (λ l. get_or l s 0) groups ∙ get_or-by_number (class_of sys) sys.states s 0 lt;
+    states = ap length groups ∙ length-by_number (class_of sys) sys.states;
+    as_many = whole.summed.count ∙ ap (begun sys) e;
+    few = begun-le sys sys.states;
     sums =
         (let count = whole.summed.count ∙ ap (begun sys) e in
         by_number-from_items (class_weight sys) (length (firsts sys)) 0 classes.weights.items count
         (λ c lt. whole.summed.sums c (omega arith) ∙ ap (λ n. weight_below sys n c) e));
   }
+    where
+      groups : classes.class_of.items ≡ map (class_of sys) (count_up 0 sys.states)
+      groups = whole.groups ∙ ap (λ n. map (class_of sys) (count_up 0 n)) e

@@ -19,8 +19,8 @@ use Rattle.sig_matrix.specs.Valid.{IsValid}
 use Rattle.sig_classes.specs.declared.classes.Classes.{Classes}
 use Rattle.sig_classes.specs.Classes.{AreClassesOf}
 use Rattle.sig_classes.specs.Passing.{ArePassing}
-use Rattle.sig_classes.proofs.ClassesLaws.{length-weights, weight-at}
-use Rattle.sig_classes.proofs.GroupingLaws.{few, light}
+use Rattle.sig_classes.proofs.ClassesLaws.{weight-at}
+use Rattle.sig_classes.proofs.GroupingLaws.{light}
 
 weight_of-le : (p : Problem) (most from n : ℕ) → ((s : ℕ) → s < from + n → p.weight s ≤ most) → weight_of p (count_up from n) ≤ most * n
 weight_of-le p most from zero each = omega arith
@@ -34,7 +34,7 @@ module _ (matrix : Matrix) (valid : IsValid matrix) (classes : Classes) (are : A
   sys = system_of matrix
 
   many : length ws ≡ length (firsts sys)
-  many = ap length weights ∙ length-weights sys classes are
+  many = ap length weights ∙ are.as_many
 
   as_many_costs : length cs ≡ length matrix.tests
   as_many_costs = ap length costs ∙ length-map matrix.tests (λ (t : TestLabel). t.cost)
@@ -77,7 +77,7 @@ module _ (matrix : Matrix) (valid : IsValid matrix) (classes : Classes) (are : A
         positive = weighed.positive;
         total =
             (let total = stands.total in
-            let states = few matrix valid in
+            let states = valid.many in
             let most = weight_of-le (state_problem sys) 1000000 0 (state_count matrix) (λ s lt. light matrix valid s (omega arith)) in
             omega arith);
         tests = omega arith;

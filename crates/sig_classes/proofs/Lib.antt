@@ -1,8 +1,8 @@
 pub mod ClassesLaws
-pub mod CountLaws
 pub mod GroupingLaws
 pub mod InstanceLaws
 pub mod PassedLaws
 pub mod PassingLaws
 pub mod RowWordsLaws
 pub mod Shown
+pub mod ProblemLaws

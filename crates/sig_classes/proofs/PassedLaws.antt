@@ -12,7 +12,7 @@ use Rattle.seq_inst.specs.declared.group.Group.{Group}
 use Rattle.seq_inst.specs.Members.{has_class}
 use Rattle.seq_inst.specs.Valid.{no_class}
 use Rattle.sig_classes.specs.Passing.{AddsClass, AreEightWords}
-use Rattle.sig_classes.specs.States.{row_fails}
+use Rattle.sig_matrix.specs.Detection.{in_row}
 use Rattle.sig_classes.proofs.GroupingLaws.{class_of-lt}
 use Rattle.sig_classes.proofs.RowWordsLaws.{fails-from_row}
 
@@ -44,7 +44,7 @@ module _ (sys : System) where
     pub within : (t c : ℕ) → t < sys.tests → c < 512 → has_class (get_or passes t no_class) c ≡ true → c < found
 
   -- the first state of a class puts the class to its tests
-  pub passed-new : (m found : ℕ) (passes new : List Group) (row : List ℕ) → m < sys.states → length (firsts sys) ≤ 512 → ((t : ℕ) → sys.fails m t ≡ row_fails row t)
+  pub passed-new : (m found : ℕ) (passes new : List Group) (row : List ℕ) → m < sys.states → length (firsts sys) ≤ 512 → ((t : ℕ) → sys.fails m t ≡ in_row row t)
       → class_of sys m ≡ found → Passed m found passes → AddsClass row found passes new → Passed (m + 1) (found + 1) new
   passed-new m found passes new row lt few tells next before adds = record {
     begins =
@@ -62,14 +62,14 @@ module _ (sys : System) where
           let start = before.begins in
           let other = ne_eqb (class_of sys s) found (λ e. let h : ⊥ = omega arith in h) in
           adds.added t (class_of sys s) (in_passes t l) (class_fits s (omega arith))
-          ∙ ap (λ b. has_class (get_or passes t no_class) (class_of sys s) || (b && not (row_fails row t))) other
+          ∙ ap (λ b. has_class (get_or passes t no_class) (class_of sys s) || (b && not (in_row row t))) other
           ∙ or-false (has_class (get_or passes t no_class) (class_of sys s))
           ∙ before.passing t s l earlier)
       | inr ge ↦ (let here : m ≡ s = omega arith in subst (λ k. has_class (get_or new t no_class) (class_of sys k) ≡ not (sys.fails k t)) here (own t l))
     ];
-    within = λ t c l fits y. elim (or_cases (has_class (get_or passes t no_class) c) (nat_eq c found && not (row_fails row t)) (sym (adds.added t c (in_passes t l) fits) ∙ y)) [
+    within = λ t c l fits y. elim (or_cases (has_class (get_or passes t no_class) c) (nat_eq c found && not (in_row row t)) (sym (adds.added t c (in_passes t l) fits) ∙ y)) [
       | inl old ↦ (let h = before.within t c l fits old in omega arith)
-      | inr added ↦ (let h = eqb-true c found (and_parts (nat_eq c found) (not (row_fails row t)) added).0 in omega arith)
+      | inr added ↦ (let h = eqb-true c found (and_parts (nat_eq c found) (not (in_row row t)) added).0 in omega arith)
     ];
   }
     where
@@ -86,8 +86,8 @@ module _ (sys : System) where
       own : (t : ℕ) → t < sys.tests → has_class (get_or new t no_class) (class_of sys m) ≡ not (sys.fails m t)
       own t l =
           adds.added t (class_of sys m) (in_passes t l) (class_fits m lt)
-          ∙ ap (λ b. b || (nat_eq (class_of sys m) found && not (row_fails row t))) absent
-          ∙ ap (λ b. b && not (row_fails row t)) (eq-eqb (class_of sys m) found next)
+          ∙ ap (λ b. b || (nat_eq (class_of sys m) found && not (in_row row t))) absent
+          ∙ ap (λ b. b && not (in_row row t)) (eq-eqb (class_of sys m) found next)
           ∙ ap not (sym (tells t))
         where
           absent : has_class (get_or passes t no_class) (class_of sys m) ≡ false

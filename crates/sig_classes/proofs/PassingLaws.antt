@@ -12,7 +12,7 @@ use Rattle.seq_inst.specs.declared.group.Group.{Group}
 use Rattle.seq_inst.specs.Members.{has_class}
 use Rattle.seq_inst.specs.Valid.{no_class}
 use Rattle.sig_classes.specs.Passing.{AddsTo, AreEightWords}
-use Rattle.sig_classes.specs.States.{row_fails}
+use Rattle.sig_matrix.specs.Detection.{in_row}
 
 or-false : (b : Bool) → (b || false) ≡ b
 or-false true = refl
@@ -64,11 +64,11 @@ adds_to group class eight lt = record {
 pub record AddedBelow (row : List ℕ) (class n : ℕ) (old new : List Group) : Type 0 where
   pub as_many : length new ≡ length old
   pub words : AreEightWords new
-  pub added : (t c : ℕ) → t < n → c < 512 → has_class (get_or new t no_class) c ≡ (has_class (get_or old t no_class) c || (nat_eq c class && not (row_fails row t)))
+  pub added : (t c : ℕ) → t < n → c < 512 → has_class (get_or new t no_class) c ≡ (has_class (get_or old t no_class) c || (nat_eq c class && not (in_row row t)))
   pub same : (t : ℕ) → n ≤ t → get_or new t no_class ≡ get_or old t no_class
 
 -- a test that the row fails stays
-pub added_fails : (row : List ℕ) (class n : ℕ) (old passes : List Group) → AddedBelow row class n old passes → row_fails row n ≡ true → AddedBelow row class (n + 1) old passes
+pub added_fails : (row : List ℕ) (class n : ℕ) (old passes : List Group) → AddedBelow row class n old passes → in_row row n ≡ true → AddedBelow row class (n + 1) old passes
 added_fails row class n old passes before fails = record {
   as_many = before.as_many;
   words = before.words;
@@ -76,7 +76,7 @@ added_fails row class n old passes before fails = record {
     | inl below ↦ before.added t c below l
     | inr ge ↦
         (let here : n ≡ t = omega arith in
-        let stays : (nat_eq c class && not (row_fails row t)) ≡ false = ap (λ k. nat_eq c class && not (row_fails row k)) (sym here) ∙ ap (λ b. nat_eq c class && not b) fails ∙ and-false (nat_eq c class) in
+        let stays : (nat_eq c class && not (in_row row t)) ≡ false = ap (λ k. nat_eq c class && not (in_row row k)) (sym here) ∙ ap (λ b. nat_eq c class && not b) fails ∙ and-false (nat_eq c class) in
         ap (λ g. has_class g c) (before.same t ge) ∙ sym (or-false (has_class (get_or old t no_class) c)) ∙ ap (λ b. has_class (get_or old t no_class) c || b) (sym stays))
   ];
   same = λ t le. before.same t (omega arith);
@@ -87,7 +87,7 @@ added_fails row class n old passes before fails = record {
     and-false false = refl
 
 -- a test that the row passes gains the class
-pub added_passes : (row : List ℕ) (class n : ℕ) (old passes : List Group) (group : Group) → AddedBelow row class n old passes → n < length old → AddsTo class (get_or passes n no_class) group → row_fails row n ≡ false → AddedBelow row class (n + 1) old (set passes n group)
+pub added_passes : (row : List ℕ) (class n : ℕ) (old passes : List Group) (group : Group) → AddedBelow row class n old passes → n < length old → AddsTo class (get_or passes n no_class) group → in_row row n ≡ false → AddedBelow row class (n + 1) old (set passes n group)
 added_passes row class n old passes group before lt adds passing = record {
   as_many = length-set passes n group ∙ before.as_many;
   words = λ t l. elim (cases_eq n t) [
@@ -99,7 +99,7 @@ added_passes row class n old passes group before lt adds passing = record {
         ∙ before.words t (let long = length-set passes n group in omega arith)
   ];
   added = λ t c below l. elim (cases_eq n t) [
-    | inl here ↦ subst (λ k. has_class (get_or (set passes n group) k no_class) c ≡ (has_class (get_or old k no_class) c || (nat_eq c class && not (row_fails row k)))) here (at_test c l)
+    | inl here ↦ subst (λ k. has_class (get_or (set passes n group) k no_class) c ≡ (has_class (get_or old k no_class) c || (nat_eq c class && not (in_row row k)))) here (at_test c l)
     | inr other ↦
         ap (λ g. has_class g c) (get_or-set_other passes n t group no_class (λ e. other (sym e)))
         ∙ before.added t c (omega arith) l
@@ -114,27 +114,10 @@ added_passes row class n old passes group before lt adds passing = record {
     and-true true = refl
     and-true false = refl
 
-    at_test : (c : ℕ) → c < 512 → has_class (get_or (set passes n group) n no_class) c ≡ (has_class (get_or old n no_class) c || (nat_eq c class && not (row_fails row n)))
+    at_test : (c : ℕ) → c < 512 → has_class (get_or (set passes n group) n no_class) c ≡ (has_class (get_or old n no_class) c || (nat_eq c class && not (in_row row n)))
     at_test c l =
-        let gains : nat_eq c class ≡ (nat_eq c class && not (row_fails row n)) = and-true (nat_eq c class) ∙ ap (λ b. nat_eq c class && not b) (sym passing) in
+        let gains : nat_eq c class ≡ (nat_eq c class && not (in_row row n)) = and-true (nat_eq c class) ∙ ap (λ b. nat_eq c class && not b) (sym passing) in
         ap (λ g. has_class g c) (get_or-set_same passes n group no_class in_range)
         ∙ adds.added c l
         ∙ ap (λ g. has_class g c || nat_eq c class) (before.same n (omega arith))
         ∙ ap (λ b. has_class (get_or old n no_class) c || b) gains
-
--- the bit of a row that is looked at
-pub row_fails-bit : (row : List ℕ) (t : ℕ) → bit_and (get_or row (t / 64) 0 / 2 ^ (t % 64)) 1 ≡ bit_at (get_or row (t / 64) 0) (t % 64)
-row_fails-bit row t = shr_and_one (get_or row (t / 64) 0) (t % 64)
-
-pub row_fails-zero : (row : List ℕ) (t : ℕ) → bit_and (get_or row (t / 64) 0 / 2 ^ (t % 64)) 1 ≡ 0 → row_fails row t ≡ false
-row_fails-zero row t e = ap (λ b. nat_eq b 1) (sym (row_fails-bit row t) ∙ e)
-
-pub row_fails-one : (row : List ℕ) (t : ℕ) → (bit_and (get_or row (t / 64) 0 / 2 ^ (t % 64)) 1 ≡ 0 → ⊥) → row_fails row t ≡ true
-row_fails-one row t ne =
-    let bit = row_fails-bit row t in
-    let lt = bit_at-lt (get_or row (t / 64) 0) (t % 64) in
-    let one : bit_at (get_or row (t / 64) 0) (t % 64) ≡ 1 = elim (cases_lt (bit_at (get_or row (t / 64) 0) (t % 64)) 1) [
-      | inl low ↦ absurd (ne (omega arith))
-      | inr high ↦ omega arith
-    ] in
-    ap (λ b. nat_eq b 1) one

@@ -14,12 +14,11 @@ use Rattle.sig_types.specs.Sets.{has_bit}
 use Rattle.seq_theory.specs.States.{System, row, same_row}
 use Rattle.seq_theory.proofs.StatesLaws.{row-from_same, same-from_row}
 use Rattle.sig_matrix.specs.declared.matrix.Matrix.{Matrix}
-use Rattle.sig_matrix.specs.Detection.{fails, before_faults, state_count, system_of}
+use Rattle.sig_matrix.specs.Detection.{fails, before_faults, state_count, system_of, state_row, in_row, AreFourWords}
 use Rattle.sig_matrix.specs.Valid.{IsValid}
-use Rattle.sig_classes.specs.States.{row_words, row_fails, AreFourWords}
-use Rattle.sig_classes.proofs.CountLaws.{length-by_number, get_or-by_number}
+use Rattle.seq_theory.proofs.ByNumberLaws.{length-by_number, get_or-by_number}
 
-no_bit : (t : ℕ) → row_fails (replicate {A = ℕ} 4 0) t ≡ false
+no_bit : (t : ℕ) → in_row (replicate {A = ℕ} 4 0) t ≡ false
 no_bit t = ap (λ w. has_bit w (t % 64)) zero_word ∙ ap (λ b. nat_eq b 1) (bit_at-zero (t % 64))
   where
     zero_word : get_or (replicate {A = ℕ} 4 0) (t / 64) 0 ≡ 0
@@ -29,8 +28,8 @@ no_bit t = ap (λ w. has_bit w (t % 64)) zero_word ∙ ap (λ b. nat_eq b 1) (bi
     ]
 
 -- a state fails the tests whose bits are in its words
-pub fails-row_words : (matrix : Matrix) (s t : ℕ) → fails matrix s t ≡ row_fails (row_words matrix s) t
-fails-row_words matrix s t = elim (cases_Bool (nat_lt s (before_faults matrix))) [
+pub fails-state_row : (matrix : Matrix) (s t : ℕ) → fails matrix s t ≡ in_row (state_row matrix s) t
+fails-state_row matrix s t = elim (cases_Bool (nat_lt s (before_faults matrix))) [
   | inl healthy ↦ rw healthy (sym (no_bit t))
   | inr faulty ↦ rw faulty refl
 ]
@@ -53,7 +52,7 @@ bits_equal x y i e = elim (cases_Bool (has_bit x i)) [
 
 module _ (matrix : Matrix) (valid : IsValid matrix) where
   -- no bit past the tests
-  none_past : (s t : ℕ) → s < state_count matrix → length matrix.tests ≤ t → t < 256 → row_fails (row_words matrix s) t ≡ false
+  none_past : (s t : ℕ) → s < state_count matrix → length matrix.tests ≤ t → t < 256 → in_row (state_row matrix s) t ≡ false
   none_past s t there past lt = elim (cases_Bool (nat_lt s (before_faults matrix))) [
     | inl healthy ↦ rw healthy (no_bit t)
     | inr faulty ↦
@@ -61,45 +60,45 @@ module _ (matrix : Matrix) (valid : IsValid matrix) where
         rw faulty (valid.nothing_else (s - before_faults matrix) t (omega arith) past lt))
   ]
 
-  bits-from_row : (a b t : ℕ) → a < state_count matrix → b < state_count matrix → row (system_of matrix) a ≡ row (system_of matrix) b → t < 256 → row_fails (row_words matrix a) t ≡ row_fails (row_words matrix b) t
+  bits-from_row : (a b t : ℕ) → a < state_count matrix → b < state_count matrix → row (system_of matrix) a ≡ row (system_of matrix) b → t < 256 → in_row (state_row matrix a) t ≡ in_row (state_row matrix b) t
   bits-from_row a b t la lb e lt = elim (cases_lt t (length matrix.tests)) [
-    | inl test ↦ sym (fails-row_words matrix a t) ∙ fails-from_row (system_of matrix) a b t e test ∙ fails-row_words matrix b t
+    | inl test ↦ sym (fails-state_row matrix a t) ∙ fails-from_row (system_of matrix) a b t e test ∙ fails-state_row matrix b t
     | inr past ↦ none_past a t la past lt ∙ sym (none_past b t lb past lt)
   ]
 
-  words-from_row : (a b : ℕ) → a < state_count matrix → b < state_count matrix → AreFourWords (row_words matrix a) → AreFourWords (row_words matrix b) → row (system_of matrix) a ≡ row (system_of matrix) b → row_words matrix a ≡ row_words matrix b
-  words-from_row a b la lb wa wb e = ext_get_or 0 (row_words matrix a) (row_words matrix b) (wa.four ∙ sym wb.four) (λ k lt. word k (let four = wa.four in omega arith))
+  words-from_row : (a b : ℕ) → a < state_count matrix → b < state_count matrix → AreFourWords (state_row matrix a) → AreFourWords (state_row matrix b) → row (system_of matrix) a ≡ row (system_of matrix) b → state_row matrix a ≡ state_row matrix b
+  words-from_row a b la lb wa wb e = ext_get_or 0 (state_row matrix a) (state_row matrix b) (wa.four ∙ sym wb.four) (λ k lt. word k (let four = wa.four in omega arith))
     where
-      word : (k : ℕ) → k < 4 → get_or (row_words matrix a) k 0 ≡ get_or (row_words matrix b) k 0
-      word k lt = same_from_bits_below 64 (get_or (row_words matrix a) k 0) (get_or (row_words matrix b) k 0) (wa.words k lt) (wb.words k lt) (λ i below. bits_equal (get_or (row_words matrix a) k 0) (get_or (row_words matrix b) k 0) i (bit k i lt below))
+      word : (k : ℕ) → k < 4 → get_or (state_row matrix a) k 0 ≡ get_or (state_row matrix b) k 0
+      word k lt = same_from_bits_below 64 (get_or (state_row matrix a) k 0) (get_or (state_row matrix b) k 0) (wa.words k lt) (wb.words k lt) (λ i below. bits_equal (get_or (state_row matrix a) k 0) (get_or (state_row matrix b) k 0) i (bit k i lt below))
         where
-          bit : (k i : ℕ) → k < 4 → i < 64 → has_bit (get_or (row_words matrix a) k 0) i ≡ has_bit (get_or (row_words matrix b) k 0) i
+          bit : (k i : ℕ) → k < 4 → i < 64 → has_bit (get_or (state_row matrix a) k 0) i ≡ has_bit (get_or (state_row matrix b) k 0) i
           bit k i lt below =
               let quotient : (64 * k + i) / 64 ≡ k = omega arith in
               let rest : (64 * k + i) % 64 ≡ i = omega arith in
               let in_range : 64 * k + i < 256 = omega arith in
-              ap (λ q. has_bit (get_or (row_words matrix a) q 0) i) (sym quotient)
-              ∙ ap (λ r. has_bit (get_or (row_words matrix a) ((64 * k + i) / 64) 0) r) (sym rest)
+              ap (λ q. has_bit (get_or (state_row matrix a) q 0) i) (sym quotient)
+              ∙ ap (λ r. has_bit (get_or (state_row matrix a) ((64 * k + i) / 64) 0) r) (sym rest)
               ∙ bits-from_row a b (64 * k + i) la lb e in_range
-              ∙ ap (λ r. has_bit (get_or (row_words matrix b) ((64 * k + i) / 64) 0) r) rest
-              ∙ ap (λ q. has_bit (get_or (row_words matrix b) q 0) i) quotient
+              ∙ ap (λ r. has_bit (get_or (state_row matrix b) ((64 * k + i) / 64) 0) r) rest
+              ∙ ap (λ q. has_bit (get_or (state_row matrix b) q 0) i) quotient
 
-  row-from_words : (a b : ℕ) → row_words matrix a ≡ row_words matrix b → row (system_of matrix) a ≡ row (system_of matrix) b
+  row-from_words : (a b : ℕ) → state_row matrix a ≡ state_row matrix b → row (system_of matrix) a ≡ row (system_of matrix) b
   row-from_words a b e = ext_get_or false (row (system_of matrix) a) (row (system_of matrix) b)
       (length-by_number (fails matrix a) n ∙ sym (length-by_number (fails matrix b) n))
       (λ t lt.
       (let long = length-by_number (fails matrix a) n in
       get_or-by_number (fails matrix a) n t false (omega arith)
-      ∙ fails-row_words matrix a t ∙ ap (λ w. row_fails w t) e ∙ sym (fails-row_words matrix b t)
+      ∙ fails-state_row matrix a t ∙ ap (λ w. in_row w t) e ∙ sym (fails-state_row matrix b t)
       ∙ sym (get_or-by_number (fails matrix b) n t false (omega arith))))
     where
       n : ℕ
       n = length matrix.tests
 
-  pub words-decide : (a b : ℕ) → a < state_count matrix → b < state_count matrix → AreFourWords (row_words matrix a) → AreFourWords (row_words matrix b) → bytes_eq (row_words matrix a) (row_words matrix b) ≡ same_row (system_of matrix) a b
-  words-decide a b la lb wa wb = equal (bytes_eq (row_words matrix a) (row_words matrix b)) (same_row (system_of matrix) a b)
-      (λ t. same-from_row (system_of matrix) a b (row-from_words a b ((bytes_eq-Decides (row_words matrix a) (row_words matrix b)).0 t)))
-      (λ t. (bytes_eq-Decides (row_words matrix a) (row_words matrix b)).1 (words-from_row a b la lb wa wb (row-from_same (system_of matrix) a b t)))
+  pub words-decide : (a b : ℕ) → a < state_count matrix → b < state_count matrix → AreFourWords (state_row matrix a) → AreFourWords (state_row matrix b) → bytes_eq (state_row matrix a) (state_row matrix b) ≡ same_row (system_of matrix) a b
+  words-decide a b la lb wa wb = equal (bytes_eq (state_row matrix a) (state_row matrix b)) (same_row (system_of matrix) a b)
+      (λ t. same-from_row (system_of matrix) a b (row-from_words a b ((bytes_eq-Decides (state_row matrix a) (state_row matrix b)).0 t)))
+      (λ t. (bytes_eq-Decides (state_row matrix a) (state_row matrix b)).1 (words-from_row a b la lb wa wb (row-from_same (system_of matrix) a b t)))
     where
       equal : (x y : Bool) → (x ≡ true → y ≡ true) → (y ≡ true → x ≡ true) → x ≡ y
       equal true y h k = sym (h refl)

@@ -38,6 +38,7 @@ costs (suc t) lt = absurd (let h : ⊥ = omega arith in h)
 IsValid-shown : IsValid shown
 IsValid-shown = record {
   some = omega arith;
+  many = omega arith;
   good = omega arith;
   faults = omega arith;
   tests = omega arith;

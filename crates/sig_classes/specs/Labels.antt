@@ -5,8 +5,7 @@ use Rattle.seq_theory.specs.States.{class_of}
 use Rattle.sig_lines.specs.declared.labels.Labels.{Labels}
 use Rattle.sig_lines.specs.declared.labels.StateLabel.{StateLabel}
 use Rattle.sig_matrix.specs.declared.matrix.Matrix.{Matrix}
-use Rattle.sig_matrix.specs.Detection.{state_count, state_weight, system_of}
-use Rattle.sig_classes.specs.States.{state_name}
+use Rattle.sig_matrix.specs.Detection.{state_count, state_weight, system_of, state_name}
 
 -- a state's weight, its name and its ambiguity group
 abbrev pub state_label : Matrix → ℕ → StateLabel

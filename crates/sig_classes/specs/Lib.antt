@@ -3,4 +3,3 @@ pub mod Grouping
 pub mod Labels
 pub mod Passing
 pub mod Refusals
-pub mod States

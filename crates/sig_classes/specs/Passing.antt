@@ -4,11 +4,12 @@ use Rattle.seq_theory.specs.States.{System, class_of, firsts}
 use Rattle.seq_inst.specs.declared.group.Group.{Group}
 use Rattle.seq_inst.specs.Members.{has_class}
 use Rattle.seq_inst.specs.Valid.{no_class}
-use Rattle.sig_classes.specs.States.{row_fails}
+use Rattle.sig_matrix.specs.Detection.{in_row}
 
 -- each test has the ambiguity groups whose states don't fail it, and no class besides
 pub record ArePassing (sys : System) (passes : List Group) : Type 0 where
   pub as_many : length passes ≡ sys.tests
+  pub words : (t : ℕ) → t < length passes → length (slice_index_or passes t no_class).0 ≡ 8
   pub passing : (t s : ℕ) → t < sys.tests → s < sys.states → has_class (slice_index_or passes t no_class) (class_of sys s) ≡ not (sys.fails s t)
   pub within : (t c : ℕ) → t < sys.tests → c < 512 → has_class (slice_index_or passes t no_class) c ≡ true → c < length (firsts sys)
 
@@ -26,4 +27,4 @@ pub record AddsClass (row : List ℕ) (class : ℕ) (old new : List Group) : Typ
   pub as_many : length new ≡ length old
   pub words : AreEightWords new
   pub added : (t c : ℕ) → t < length old → c < 512
-      → has_class (slice_index_or new t no_class) c ≡ (has_class (slice_index_or old t no_class) c || (nat_eq c class && not (row_fails row t)))
+      → has_class (slice_index_or new t no_class) c ≡ (has_class (slice_index_or old t no_class) c || (nat_eq c class && not (in_row row t)))

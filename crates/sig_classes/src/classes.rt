@@ -5,7 +5,6 @@ ghost use Rattle.std.specs.Prelude.{IfOk};
 ghost use Rattle.sig_matrix.specs.Valid.{IsValid};
 ghost use Rattle.sig_matrix.specs.Detection.{system_of};
 
-use crate::states::{row_of, weight_of_state};
 use indexmap::IndexSet;
 use sig_matrix::Matrix;
 use std::alloc::{AllocError, Global};
@@ -24,7 +23,7 @@ impl Classes {
     ghost use Rattle.std.specs.List.{position_or_len};
     ghost use Rattle.std.specs.Str.{bytes_eq};
     ghost use Rattle.indexmap.specs.IndexSet.{insert_key};
-    ghost use Rattle.sig_classes.specs.States.{AreFourWords};
+    ghost use Rattle.sig_matrix.specs.Detection.{AreFourWords};
     ghost use Rattle.sig_classes.specs.Grouping.{with_weight};
 
     /// Puts one more state to the class of its row, the first of which is new. `seen` has the rows by
@@ -68,11 +67,7 @@ pub fn classes_of(alloc: Global, matrix: &Matrix) -> Result<Classes, AllocError>
         weights: Vec::new(alloc),
     };
     for state in 0..matrix.states() {
-        classes.add_state(
-            &mut seen,
-            row_of(matrix, state),
-            weight_of_state(matrix, state),
-        )?;
+        classes.add_state(&mut seen, matrix.row(state), matrix.weight(state))?;
     }
     Ok(classes)
 }

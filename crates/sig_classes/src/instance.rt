@@ -5,22 +5,20 @@ ghost use Rattle.std.specs.Prelude.{◌≡◌, ◌<◌, ◌≤◌, length, map, 
 ghost use Rattle.sig_matrix.specs.Valid.{IsValid};
 ghost use Rattle.sig_matrix.specs.Detection.{system_of};
 ghost use Rattle.seq_inst.specs.Instances.{problem_of};
-ghost use Rattle.seq_theory.specs.States.{IsOfClasses, firsts};
+ghost use Rattle.seq_theory.specs.States.{IsOfClasses, firsts, problem_of_classes};
 ghost use Rattle.sig_classes.specs.Classes.{AreClassesOf};
 ghost use Rattle.sig_classes.specs.Refusals.{TellsManyClasses};
 ghost use Rattle.sig_classes.specs.Passing.{ArePassing, AreEightWords, AddsClass, AddsTo};
 
 use crate::classes::Classes;
-use crate::states::row_of;
+use seq_inst::{Group, Instance};
+use sig_lines::TestLabel;
+use sig_matrix::{Matrix, has_test};
+use sig_types::{Code, Counted, ModelFault, Place, Refusal};
+use std::alloc::{AllocError, Global};
 
 /// An instance has at most so many classes.
 const MOST_CLASSES: usize = 512;
-
-use seq_inst::{Group, Instance};
-use sig_lines::TestLabel;
-use sig_matrix::Matrix;
-use sig_types::{Code, Counted, ModelFault, Place, Refusal};
-use std::alloc::{AllocError, Global};
 
 /// The instance over the classes: weights by class, costs by test, and by test the classes that don't
 /// fail it. M13 at the classes comes exactly where there are more than 512.
@@ -33,6 +31,7 @@ pub fn instance_of(
     requires classes { AreClassesOf (system_of matrix.now) classes.now }
 
     ensures instance { IfOk result (λ inst. IsOfClasses (system_of matrix.now) (problem_of inst)) }
+    ensures problem { IfOk result (λ inst. problem_of inst ≡ problem_of_classes (system_of matrix.now)) }
     ensures few { OnOk result (length (firsts (system_of matrix.now)) ≤ 512) }
     ensures many { IfErr result (TellsManyClasses (length (firsts (system_of matrix.now)))) }
 {
@@ -57,7 +56,8 @@ fn instance_of_few(
     requires valid { IsValid matrix.now }
     requires classes { AreClassesOf (system_of matrix.now) classes.now }
     requires few { length (firsts (system_of matrix.now)) ≤ 512 }
-    ensures { IfOk result (λ inst. IsOfClasses (system_of matrix.now) (problem_of inst)) }
+    ensures instance { IfOk result (λ inst. IsOfClasses (system_of matrix.now) (problem_of inst)) }
+    ensures problem { IfOk result (λ inst. problem_of inst ≡ problem_of_classes (system_of matrix.now)) }
 {
     let weights = Vec::from_slice(alloc, classes.weights.as_slice())?;
     let costs = costs_of(alloc, matrix.tests.as_slice())?;
@@ -82,7 +82,7 @@ fn passes_of(alloc: Global, matrix: &Matrix, classes: &Classes) -> Result<Vec<Gr
     let mut found = 0;
     for state in 0..matrix.states() {
         if classes.class_of[state as usize] == found {
-            add_class(passes.as_mut_slice(), row_of(matrix, state), found);
+            add_class(passes.as_mut_slice(), matrix.row(state), found);
             found += 1;
         }
     }
@@ -97,7 +97,7 @@ fn add_class(passes: &mut [Group], row: [u64; 4], class: u32)
     ensures { AddsClass row class passes.old passes.new }
 {
     for (test, group) in passes.iter_mut().enumerate() {
-        if (row[test / 64] >> (test % 64)) & 1 == 0 {
+        if !has_test(row, test as u32) {
             add_to(group, class);
         }
     }

@@ -7,7 +7,6 @@ ghost use Rattle.sig_classes.specs.Classes.{AreClassesOf};
 ghost use Rattle.sig_classes.specs.Labels.{state_labels_of, labels_from};
 
 use crate::classes::Classes;
-use crate::states::{name_of, weight_of_state};
 use sig_lines::{Labels, StateLabel, TestLabel};
 use sig_matrix::Matrix;
 use sig_types::{List, Text};
@@ -43,8 +42,8 @@ fn state_labels(
     let mut states = List::new(alloc);
     for state in 0..matrix.states() {
         states.push(StateLabel {
-            weight: weight_of_state(matrix, state),
-            label: name_of(alloc, matrix, state)?,
+            weight: matrix.weight(state),
+            label: Text::of(alloc, matrix.label(state))?,
             class: classes.class_of[state as usize],
         })?;
     }

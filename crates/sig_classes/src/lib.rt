@@ -7,7 +7,6 @@
 mod classes;
 mod instance;
 mod labels;
-mod states;
 
 pub use classes::{Classes, classes_of};
 pub use instance::instance_of;

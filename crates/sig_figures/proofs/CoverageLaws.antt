@@ -9,10 +9,9 @@ use Rattle.std.proofs.lemmas.List.Folds.{list_any_none, list_any_at}
 use Rattle.seq_theory.specs.Problem.{count_up}
 use Rattle.sig_matrix.specs.declared.matrix.Matrix.{Matrix}
 use Rattle.sig_matrix.specs.declared.matrix.FaultRow.{FaultRow}
-use Rattle.sig_matrix.specs.Detection.{detects, in_row, no_row}
+use Rattle.sig_matrix.specs.Detection.{detects, in_row, no_row, AreFourWords}
 use Rattle.sig_matrix.specs.Valid.{IsValid}
-use Rattle.sig_classes.specs.States.{AreFourWords}
-use Rattle.sig_classes.proofs.CountLaws.{length-count_up}
+use Rattle.seq_theory.proofs.BelowLaws.{length-count_up}
 use Rattle.sig_figures.specs.Coverage.{is_seen}
 use Rattle.sig_figures.proofs.UpTo.{up-at}
 use Rattle.sig_figures.proofs.Words.{zero-row, row-from_clear}

@@ -11,7 +11,7 @@ use Rattle.seq_theory.specs.Problem.{count_up}
 use Rattle.sig_flat.specs.declared.flat.Flat.{Flat}
 use Rattle.sig_reach.specs.Marks.{is_marked}
 use Rattle.sig_reach.specs.Paths.{HasFreePath}
-use Rattle.sig_classes.proofs.CountLaws.{length-count_up}
+use Rattle.seq_theory.proofs.BelowLaws.{length-count_up}
 use Rattle.sig_figures.specs.Loops.{IsLooped, IsLoopedBelow, AreLooped}
 use Rattle.sig_figures.proofs.UpTo.{up-at, below-end, filter-yes, filter-next}
 

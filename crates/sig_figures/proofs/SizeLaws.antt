@@ -2,7 +2,7 @@
 use Rattle.std.proofs.Common.{◌≡◌, ℕ, zero, suc, ◌+◌, ◌-◌, ◌<◌, ◌≤◌, List, [], ◌∷◌, ◌++◌, length, get_or, set, replicate, map, refl, sym, ap, ◌∙◌, arith, inl, inr}
 use Rattle.std.specs.Prelude.{Bool, true, false, cond, nat_eq, nat_lt, count_by, filter, All}
 use Rattle.std.proofs.lemmas.Bool.{cases_eq, eq-eqb, ne_eqb, lt-ltb}
-use Rattle.std.proofs.lemmas.List.{get_or-set_same, get_or-set_other, length-set, get_or-replicate, length-replicate, map-append}
+use Rattle.std.proofs.lemmas.List.{get_or_read, get_or-set_same, get_or-set_other, length-set, get_or-replicate, length-replicate, map-append}
 use Rattle.std.proofs.lemmas.List.Elements.{All-from_get_or}
 use Rattle.std.proofs.lemmas.List.Folds.{fold-map}
 use Rattle.std.proofs.lemmas.List.Sums.{sum_by_push, count_by-le-length}
@@ -13,8 +13,8 @@ use Rattle.sig_matrix.specs.declared.matrix.Matrix.{Matrix}
 use Rattle.sig_matrix.specs.Detection.{before_faults, state_count, system_of}
 use Rattle.sig_classes.specs.declared.classes.Classes.{Classes}
 use Rattle.sig_classes.specs.Classes.{AreClassesOf}
-use Rattle.sig_classes.proofs.ClassesLaws.{length-classes, length-weights, class-read}
-use Rattle.sig_classes.proofs.CountLaws.{length-count_up, length-by_number, get_or-by_number, by_number-from_items}
+use Rattle.seq_theory.proofs.BelowLaws.{length-count_up}
+use Rattle.seq_theory.proofs.ByNumberLaws.{length-by_number, get_or-by_number, by_number-from_items}
 use Rattle.sig_figures.specs.declared.summary.SizeCount.{SizeCount}
 use Rattle.sig_figures.specs.Coverage.{all_faults}
 use Rattle.sig_figures.specs.Counts.{times_in, counts_of, count_at, some_counts}
@@ -71,8 +71,8 @@ group-small matrix fault =
 pub classes-small : (sys : System) (classes : Classes) (numbers : List ℕ) (bound : ℕ) → AreClassesOf sys classes → numbers ≡ classes.class_of.items → bound ≡ length classes.weights.items → All (λ n. n < bound) numbers
 classes-small sys classes numbers bound are same is = All-from_get_or (λ n. n < bound) numbers 0 (λ i lt.
     let as_long = ap length same in
-    let long = length-classes sys classes are in
-    let weights = length-weights sys classes are in
+    let long = are.states in
+    let weights = are.as_many in
     let there = class_of-there sys i (omega arith) in
     let read : get_or numbers i 0 ≡ class_of sys i = ap (λ l. get_or l i 0) (same ∙ are.groups) ∙ get_or-by_number (class_of sys) sys.states i 0 (omega arith) in
     omega arith)
@@ -82,14 +82,15 @@ pub class-at : (matrix : Matrix) (classes : Classes) (states many fault class : 
     → class ≡ get_or classes.class_of.items (states - many + fault) class → class ≡ class_of (system_of matrix) (before_faults matrix + fault)
 class-at matrix classes states many fault class are is_states is_many lt read =
     let place : states - many + fault ≡ before_faults matrix + fault = omega arith in
-    class-read (system_of matrix) classes are (states - many + fault) class are_there read ∙ ap (class_of (system_of matrix)) place
+    let long = are.states in
+    get_or_read classes.class_of.items (states - many + fault) class (omega arith) read 0 ∙ are.at (states - many + fault) are_there ∙ ap (class_of (system_of matrix)) place
   where
     are_there : states - many + fault < state_count matrix
     are_there = omega arith
 
 pub class-below : (matrix : Matrix) (classes : Classes) (fault class : ℕ) → AreClassesOf (system_of matrix) classes → fault < length matrix.faults → class ≡ class_of (system_of matrix) (before_faults matrix + fault) → class < length classes.weights.items
 class-below matrix classes fault class are lt is =
-    let weights = length-weights (system_of matrix) classes are in
+    let weights = are.as_many in
     let there = class_of-there (system_of matrix) (before_faults matrix + fault) (omega arith) in
     omega arith
 

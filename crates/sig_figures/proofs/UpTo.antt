@@ -9,7 +9,7 @@ use Rattle.std.proofs.lemmas.List.Sums.{sum_by_push}
 use Rattle.std.proofs.lemmas.Bool.{cases_Bool}
 use Rattle.seq_theory.specs.Problem.{count_up}
 use Rattle.seq_theory.proofs.StatesLaws.{count_up-last}
-use Rattle.sig_classes.proofs.CountLaws.{length-count_up}
+use Rattle.seq_theory.proofs.BelowLaws.{length-count_up}
 
 pub up-next : (n : ℕ) → count_up 0 (n + 1) ≡ count_up 0 n ++ n ∷ []
 up-next n = ap (count_up 0) (add-one n) ∙ count_up-last 0 n ∙ ap (λ k. count_up 0 n ++ k ∷ []) (zero-add n)

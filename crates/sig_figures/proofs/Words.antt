@@ -7,8 +7,7 @@ use Rattle.std.proofs.lemmas.List.{ext_get_or, get_or-replicate, get_or_past}
 use Rattle.std.proofs.lemmas.Nat.Bits.{bit_at_or, bit_at_not, bit_at-lt, bit_at-zero, same_from_bits_below}
 use Rattle.sig_types.specs.Sets.{has_bit}
 use Rattle.seq_theory.specs.States.{same}
-use Rattle.sig_matrix.specs.Detection.{in_row}
-use Rattle.sig_classes.specs.States.{AreFourWords}
+use Rattle.sig_matrix.specs.Detection.{in_row, AreFourWords}
 use Rattle.sig_figures.specs.Gathering.{AddsBits, AddsTests}
 
 max-bit : (x y : ℕ) → x < 2 → y < 2 → nat_eq (max x y) 1 ≡ (nat_eq x 1 || nat_eq y 1)

@@ -13,7 +13,7 @@ ghost use Rattle.sig_figures.specs.Gathering.{AddsBits, AddsTests};
 ghost use Rattle.sig_figures.specs.Columns.{same_column, earlier_equal, tests_alike};
 
 use crate::summary::EqualTest;
-use sig_matrix::Matrix;
+use sig_matrix::{Matrix, has_test};
 use sig_types::List;
 use std::alloc::{AllocError, Global};
 
@@ -62,14 +62,6 @@ fn differing(matrix: &Matrix, test: u32) -> [u64; 4]
         row = next;
     }
     row
-}
-
-/// Whether the row has the test's bit.
-fn has_test(row: [u64; 4], test: u32) -> bool
-    requires { test < 256 }
-    ensures { result ≡ in_row row test }
-{
-    (row[(test / 64) as usize] >> (test % 64)) & 1 == 1
 }
 
 /// The first test below a number whose bit is clear.

@@ -5,7 +5,7 @@
 
 ghost use Rattle.std.specs.Prelude.{◌≡◌, ◌<◌, ◌↔◌, replicate, length, IfOk, IsTrue};
 ghost use Rattle.sig_matrix.specs.Valid.{IsValid};
-ghost use Rattle.sig_classes.specs.States.{AreFourWords};
+ghost use Rattle.sig_matrix.specs.Detection.{AreFourWords};
 ghost use Rattle.sig_figures.specs.Coverage.{all_faults, is_seen, seen_faults, unseen_faults, weight_together};
 
 use sig_matrix::Matrix;

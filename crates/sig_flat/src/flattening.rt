@@ -3,7 +3,9 @@
 //! memory stay within the limits. Then the items of all instances are copied from the patterns of their
 //! blocks, and they make the flat model.
 ghost use Rattle.std.specs.Prelude.{◌≡◌, ◌&&◌, ◌≤◌, true, nat_eq, length, None, IfOk, IfErr};
+ghost use Rattle.std.specs.Option.{option_to_list};
 ghost use Rattle.sig_types.specs.Breaches.{breaches};
+ghost use Rattle.sig_types.specs.Refused.{TellsFirst};
 ghost use Rattle.sig_flat.specs.Counts.{first_over, refusal_after, flat_refusal};
 ghost use Rattle.sig_flat.specs.Counting.{limits_of};
 ghost use Rattle.sig_flat.specs.Flats.{IsFlatOf};
@@ -11,7 +13,6 @@ ghost use Rattle.sig_flat.specs.Items.{AreItemsOf};
 ghost use Rattle.sig_flat.specs.Known.{IsKnown, AreNames};
 ghost use Rattle.sig_types.specs.NameText.{is_name};
 ghost use Rattle.sig_flat.specs.Surveys.{IsSurvey, CountsAre};
-ghost use Rattle.sig_flat.specs.Refused.{TellsRefusal};
 
 use crate::counts::Counts;
 use crate::flat::Flat;
@@ -115,7 +116,7 @@ fn surveyed(alloc: Global, model: &Model) -> Result<(Survey, Counts), AllocError
 pub fn flatten(alloc: Global, valid: &Valid) -> Result<Flat, ModelFault>
     ensures accepted { IfOk result (λ flat. flat_refusal valid.now ≡ None) }
     ensures flat { IfOk result (IsFlatOf valid.now) }
-    ensures refused { IfErr result (TellsRefusal (flat_refusal valid.now)) }
+    ensures refused { IfErr result (TellsFirst (option_to_list (flat_refusal valid.now))) }
 {
     let model = valid.model();
     let (survey, counts) = match surveyed(alloc, model) {

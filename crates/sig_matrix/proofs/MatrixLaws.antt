@@ -71,6 +71,7 @@ matrix-from_parts flat mode matrix tests rows is good faults same labels h = rec
 pub valid-from_matrix : (flat : Flat) (mode : Option ℕ) (matrix : Matrix) → IsValidFlat flat → IsMatrixOf flat mode matrix → IsValid matrix
 valid-from_matrix flat mode matrix valid h = record {
   some = some;
+  many = many;
   good = subst (λ n. n ≤ 1000000) (sym h.good) valid.good;
   faults = (let few = valid.faults in let many = long_faults in omega arith);
   tests = (let many = long_tests in let all = valid.tests in let few = taken-few (is_taken mode) flat.tests in omega arith);
@@ -94,6 +95,12 @@ valid-from_matrix flat mode matrix valid h = record {
 
     long_tests : length (taken mode flat.tests) ≡ length matrix.tests
     long_tests = AllZip-long IsLabelOf (taken mode flat.tests) matrix.tests h.tests
+
+    many : state_count matrix ≤ 4097
+    many =
+        let faults = valid.faults in
+        let as_many = long_faults in
+        elim (cases_Bool (nat_eq matrix.good 0)) [ inl none ↦ rw none (omega arith) | inr some_good ↦ rw some_good (omega arith) ]
 
     some : 1 ≤ state_count matrix
     some =

@@ -3,7 +3,7 @@
 -- Detection is said over the flat model, by the existence of paths. A matrix is right for a flat model where each of its
 -- bits says whether the fault is detected. States and rows are then read off the matrix alone: the state of no fault, if it
 -- has a weight, comes first, and the faults follow.
-use Rattle.std.specs.Prelude.{◌≡◌, ℕ, ◌+◌, ◌-◌, ◌/◌, ◌%◌, ◌<◌, ◌≤◌, ◌↔◌, nat_eq, nat_lt, not, ◌&&◌, Bool, true, false, cond, codes, List, [], filter, length, slice_index, slice_index_or, Option, Some, None}
+use Rattle.std.specs.Prelude.{◌≡◌, ℕ, ◌+◌, ◌-◌, ◌/◌, ◌%◌, ◌^◌, ◌<◌, ◌≤◌, ◌↔◌, nat_eq, nat_lt, not, ◌&&◌, Bool, true, false, cond, codes, List, [], filter, length, replicate, slice_index, slice_index_or, Option, Some, None}
 use Rattle.std.specs.Bool.{MatchBool}
 use Rattle.std.specs.List.{AllZip}
 use Rattle.sig_types.specs.Sets.{has_bit}
@@ -89,13 +89,26 @@ state_count matrix = before_faults matrix + length matrix.faults
 abbrev pub fails : Matrix → ℕ → ℕ → Bool
 fails matrix s t = not (nat_lt s (before_faults matrix)) && detects matrix (s - before_faults matrix) t
 
+-- the fault that is present in the state, if there is one
+abbrev pub state_fault : Matrix → ℕ → Option FaultRow
+state_fault matrix s = cond (nat_lt s (before_faults matrix)) None (Some (slice_index_or matrix.faults (s - before_faults matrix) no_row))
+
 -- the weight of a state
 abbrev pub state_weight : Matrix → ℕ → ℕ
 state_weight matrix s = cond (nat_lt s (before_faults matrix)) matrix.good (slice_index_or matrix.faults (s - before_faults matrix) no_row).weight
 
--- the label of a state: `good` without a fault
-abbrev pub state_label : Matrix → ℕ → List ℕ
-state_label matrix s = cond (nat_lt s (before_faults matrix)) (codes "good") (slice_index_or matrix.faults (s - before_faults matrix) no_row).label
+-- what a state is called: `good` without a fault, and else its fault's label
+abbrev pub state_name : Matrix → ℕ → List ℕ
+state_name matrix s = cond (nat_lt s (before_faults matrix)) (codes "good") (slice_index_or matrix.faults (s - before_faults matrix) no_row).label
+
+-- the row of a state, as words of 64 tests: zeros without a fault
+abbrev pub state_row : Matrix → ℕ → List ℕ
+state_row matrix s = cond (nat_lt s (before_faults matrix)) (replicate {A = ℕ} 4 0) (slice_index_or matrix.faults (s - before_faults matrix) no_row).row
+
+-- four words of 64 bits
+pub record AreFourWords (row : List ℕ) : Type 0 where
+  pub four : length row ≡ 4
+  pub words : (k : ℕ) → k < 4 → slice_index row k < 2 ^ 64
 
 -- what stands past the last column
 abbrev pub no_label : TestLabel

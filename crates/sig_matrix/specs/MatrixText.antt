@@ -5,7 +5,7 @@ use Rattle.sig_lines.specs.declared.labels.TestLabel.{TestLabel}
 use Rattle.seq_theory.specs.Problem.{count_up}
 use Rattle.seq_theory.specs.States.{row}
 use Rattle.sig_matrix.specs.declared.matrix.Matrix.{Matrix}
-use Rattle.sig_matrix.specs.Detection.{system_of, state_count, state_weight, state_label, no_label}
+use Rattle.sig_matrix.specs.Detection.{system_of, state_count, state_weight, state_name, no_label}
 
 -- a test's column: its cost and its label
 abbrev pub column : Matrix → ℕ → TestLabel
@@ -21,7 +21,7 @@ row_word matrix s = cond (nat_eq (length matrix.tests) 0) (codes "-") (map outco
 
 -- a state: its weight, its row, its label
 abbrev pub state_words : Matrix → ℕ → Words
-state_words matrix s = codes "state" ∷ decimal (state_weight matrix s) ∷ row_word matrix s ∷ state_label matrix s ∷ []
+state_words matrix s = codes "state" ∷ decimal (state_weight matrix s) ∷ row_word matrix s ∷ state_name matrix s ∷ []
 
 -- the lines of the text
 abbrev pub matrix_lines : Matrix → List ℕ → List Words

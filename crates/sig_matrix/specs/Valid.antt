@@ -3,9 +3,10 @@ use Rattle.std.specs.Prelude.{◌≡◌, ℕ, ◌<◌, ◌≤◌, false, length,
 use Rattle.sig_matrix.specs.declared.matrix.Matrix.{Matrix}
 use Rattle.sig_matrix.specs.Detection.{detects, state_count, no_row, no_label}
 
--- there is a state; faults, tests, weights and costs are within their limits; no row has a bit past the tests
+-- there is a state, and at most one more than faults may be; faults, tests, weights and costs are within their limits; no row has a bit past the tests
 pub record IsValid (m : Matrix) : Type 0 where
   pub some : 1 ≤ state_count m
+  pub many : state_count m ≤ 4097
   pub good : m.good ≤ 1000000
   pub faults : length m.faults ≤ 4096
   pub tests : length m.tests ≤ 256

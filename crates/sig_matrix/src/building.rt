@@ -5,7 +5,7 @@
 //! them. A mode without a test that is taken costs one look at the tests. Beside the passes the work is one question for
 //! each fault and test.
 
-ghost use Rattle.std.specs.Prelude.{◌≡◌, ◌≢◌, ℕ, ◌+◌, ◌<◌, ◌≤◌, true, length, map, All, IfOk, IfSome};
+ghost use Rattle.std.specs.Prelude.{◌≡◌, ◌≢◌, ℕ, ◌+◌, ◌<◌, ◌≤◌, true, length, map, replicate, All, IfOk, IfSome};
 ghost use Rattle.std.specs.Bool.{OnFalse};
 ghost use Rattle.std.specs.List.{AllZip};
 ghost use Rattle.sig_flat.specs.Valid.{IsValid as IsValidFlat};
@@ -13,11 +13,12 @@ ghost use Rattle.sig_flat.specs.declared.flat.FlatTest.{FlatTest};
 ghost use Rattle.sig_reach.specs.Marks.{is_marked};
 ghost use Rattle.sig_matrix.specs.declared.matrix.FaultRow.{FaultRow};
 ghost use Rattle.sig_matrix.specs.Detection.{IsMatrixOf, IsRowOf, IsLabelOf, is_taken, taken, test_at};
-ghost use Rattle.sig_matrix.specs.Filling.{IsSetIn, IsTestAdded, IsWanted, AreRows, is_before};
+ghost use Rattle.sig_matrix.specs.Filling.{IsTestAdded, IsWanted, AreRows, is_before};
 ghost use Rattle.sig_matrix.specs.Valid.{IsValid};
 
 use crate::detection::is_detected;
 use crate::matrix::{FaultRow, Matrix};
+use crate::row::with_test;
 use sig_flat::{Flat, FlatTest};
 use sig_lines::TestLabel;
 use sig_reach::{ReachTo, reaches_to};
@@ -66,16 +67,6 @@ fn labels_of(alloc: Global, flat: &Flat, numbers: &[u32]) -> Result<List<TestLab
         })?;
     }
     Ok(labels)
-}
-
-/// The row with the test's bit.
-fn with_test(row: [u64; 4], test: u32) -> [u64; 4]
-    requires { test < 256 }
-    ensures { IsSetIn test row result }
-{
-    let mut new = row;
-    new[(test / 64) as usize] |= 1 << (test % 64);
-    new
 }
 
 /// Sets the test's bit in the row of each fault that it detects.
@@ -153,6 +144,14 @@ fn wanted_nodes(
     Ok(wanted)
 }
 
+/// So many rows without a bit.
+fn empty_rows(alloc: Global, count: usize) -> Result<Vec<[u64; 4]>, AllocError>
+    ensures { IfOk result (λ rows. rows.items ≡ replicate count (replicate {A = ℕ} 4 0)) }
+{
+    let rows = vec![in alloc; [0u64; 4]; count]?;
+    Ok(rows)
+}
+
 /// For each fault its row over the tests with these numbers.
 fn rows_of(alloc: Global, flat: &Flat, numbers: &[u32]) -> Result<Vec<[u64; 4]>, AllocError>
     requires valid { IsValidFlat flat.now }
@@ -160,7 +159,7 @@ fn rows_of(alloc: Global, flat: &Flat, numbers: &[u32]) -> Result<Vec<[u64; 4]>,
     requires few { length numbers.now ≤ 256 }
     ensures { IfOk result (λ rows. AreRows flat.now (map (test_at flat.now.tests) numbers.now) (λ t. true) rows.items) }
 {
-    let mut rows = vec![in alloc; [0u64; 4]; flat.faults.len()]?;
+    let mut rows = empty_rows(alloc, flat.faults.len())?;
     for mode in 0..flat.modes.len() as u32 {
         if is_used(flat, numbers, mode) {
             let wanted = wanted_nodes(alloc, flat, numbers, mode)?;

@@ -8,10 +8,12 @@
 mod building;
 mod detection;
 mod matrix;
+mod row;
 mod text;
 
 pub use building::matrix_of;
 pub use matrix::{FaultRow, Matrix};
+pub use row::has_test;
 pub use text::matrix_text;
 
 #[cfg(test)]

@@ -1,8 +1,10 @@
 //! A matrix, and what is read off it: which test detects which fault, and the states with their weights and labels.
 
 ghost use Rattle.std.specs.Prelude.{◌≡◌, ◌<◌, ◌≤◌, length};
-ghost use Rattle.sig_matrix.specs.Detection.{detects, state_count, fails, state_weight, state_label};
+ghost use Rattle.std.specs.Option.{option_copied};
+ghost use Rattle.sig_matrix.specs.Detection.{before_faults, detects, fails, state_count, state_fault, state_name, state_row, state_weight};
 
+use crate::row::has_test;
 use sig_lines::TestLabel;
 use sig_types::{List, Text};
 
@@ -30,19 +32,35 @@ impl Matrix {
         requires test { test < 256 }
         ensures { result ≡ detects self.now fault test }
     {
-        let found = &self.faults.as_slice()[fault as usize];
-        (found.row[(test / 64) as usize] >> (test % 64)) & 1 == 1
+        has_test(self.faults.as_slice()[fault as usize].row, test)
     }
-}
 
-impl Matrix {
+    /// How many states come before the faults.
+    fn before_faults(&self) -> u32
+        ensures { result ≡ before_faults self.now }
+    {
+        if self.good == 0 { 0 } else { 1 }
+    }
+
+    /// The fault that is present in the state, if there is one.
+    fn fault_in(&self, state: u32) -> Option<&FaultRow>
+        requires { state < state_count self.now }
+        ensures { option_copied result ≡ state_fault self.now state }
+    {
+        let before = self.before_faults();
+        if state < before {
+            None
+        } else {
+            Some(&self.faults.as_slice()[(state - before) as usize])
+        }
+    }
+
     /// How many states there are: no fault, where it has a weight, and the faults.
     pub fn states(&self) -> u32
         requires { length self.now.faults ≤ 4096 }
         ensures { result ≡ state_count self.now }
     {
-        let faults = self.faults.len() as u32;
-        if self.good == 0 { faults } else { faults + 1 }
+        self.before_faults() + self.faults.len() as u32
     }
 
     /// Whether the test fails in the state.
@@ -51,8 +69,19 @@ impl Matrix {
         requires test { test < 256 }
         ensures { result ≡ fails self.now state test }
     {
-        let before = if self.good == 0 { 0 } else { 1 };
+        let before = self.before_faults();
         state >= before && self.detects(state - before, test)
+    }
+
+    /// The row of the state; no test fails without a fault.
+    pub fn row(&self, state: u32) -> [u64; 4]
+        requires { state < state_count self.now }
+        ensures { result ≡ state_row self.now state }
+    {
+        match self.fault_in(state) {
+            None => [0; 4],
+            Some(fault) => fault.row,
+        }
     }
 
     /// The weight of the state.
@@ -60,26 +89,20 @@ impl Matrix {
         requires { state < state_count self.now }
         ensures { result ≡ state_weight self.now state }
     {
-        let before = if self.good == 0 { 0 } else { 1 };
-        if state < before {
-            self.good
-        } else {
-            self.faults.as_slice()[(state - before) as usize].weight
+        match self.fault_in(state) {
+            None => self.good,
+            Some(fault) => fault.weight,
         }
     }
 
-    /// The label of the state: `good` without a fault.
+    /// What the state is called: `good`, or the fault's label.
     pub fn label(&self, state: u32) -> &str
         requires { state < state_count self.now }
-        ensures { result.now ≡ state_label self.now state }
+        ensures { result.now ≡ state_name self.now state }
     {
-        let before = if self.good == 0 { 0 } else { 1 };
-        if state < before {
-            "good"
-        } else {
-            self.faults.as_slice()[(state - before) as usize]
-                .label
-                .as_str()
+        match self.fault_in(state) {
+            None => "good",
+            Some(fault) => fault.label.as_str(),
         }
     }
 }

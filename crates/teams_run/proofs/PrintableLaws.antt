@@ -17,7 +17,7 @@ use Rattle.sig_types.specs.declared.refusals.Code.TheVariants.{M15}
 use Rattle.sig_types.specs.declared.refusals.Place.{Place}
 use Rattle.sig_types.specs.declared.refusals.Place.TheVariants.{ModeOption}
 use Rattle.sig_types.specs.Breaches.{breach_if, has}
-use Rattle.sig_lines.specs.Pieces.{same_text}
+use Rattle.std.specs.Str.{bytes_eq}
 use Rattle.sig_lines.specs.declared.labels.StateLabel.{StateLabel}
 use Rattle.sig_lines.specs.declared.labels.TestLabel.{TestLabel}
 use Rattle.sig_flat.specs.declared.flat.Flat.{Flat}
@@ -25,10 +25,9 @@ use Rattle.sig_flat.specs.declared.flat.Fault.{Fault}
 use Rattle.sig_flat.specs.declared.flat.FlatTest.{FlatTest}
 use Rattle.sig_matrix.specs.declared.matrix.Matrix.{Matrix}
 use Rattle.sig_matrix.specs.declared.matrix.FaultRow.{FaultRow}
-use Rattle.sig_matrix.specs.Detection.{IsRowOf, IsLabelOf, before_faults, state_count, is_taken, taken, no_row}
+use Rattle.sig_matrix.specs.Detection.{IsRowOf, IsLabelOf, before_faults, state_count, is_taken, taken, no_row, state_name}
 use Rattle.sig_matrix.specs.Valid.{IsValid}
 use Rattle.sig_classes.specs.Labels.{labels_from, state_label}
-use Rattle.sig_classes.specs.States.{state_name}
 use Rattle.seq_cert.specs.LineForms.{is_mode}
 use Rattle.seq_shown.specs.Laws.{ArePrintable}
 use Rattle.teams_run.specs.Accepted.{IsMatrixOfText, model_of, mode_number, mode_refusals, text_refusals}
@@ -71,7 +70,7 @@ has-name (n ∷ names) name all e = elim (cases_Bool (bytes_eq name n)) [
 -- the mode's name is one of the model's modes, or it is `-`
 mode-label : (modes : List (List ℕ)) (mode : Option (List ℕ)) → All IsName modes → mode_refusals modes mode ≡ [] → is_mode (mode_word mode) ≡ true
 mode-label modes None all e = refl
-mode-label modes (Some name) all e = or_right (same_text name (codes "-")) (is_name name) (has-name modes name all (kept-rule (has modes name) M15 ModeOption e))
+mode-label modes (Some name) all e = or_right (bytes_eq name (codes "-")) (is_name name) (has-name modes name all (kept-rule (has modes name) M15 ModeOption e))
 
 -- a state is called `good`, or by the label of a fault
 state-label : (matrix : Matrix) (s : ℕ) → All (λ (f : FaultRow). IsLabel f.label) matrix.faults → s < state_count matrix → IsLabel (state_name matrix s)

@@ -8,7 +8,7 @@ use Rattle.seq_inst.specs.declared.instance.Instance.{Instance}
 use Rattle.seq_inst.specs.declared.outcome.Outcome.{Outcome}
 use Rattle.seq_inst.specs.Instances.{problem_of}
 use Rattle.seq_inst.specs.Trees.{tree_of}
-use Rattle.seq_inst.proofs.RootLaws.{within-all}
+use Rattle.seq_theory.proofs.BelowLaws.{within-all}
 use Rattle.seq_finish.specs.Outcomes.{IsRightOutcome}
 use Rattle.seq_finish.specs.Laws.{OutcomesHold}
 use Rattle.seq_cert.specs.declared.report.Report.{Report}

@@ -6,4 +6,4 @@ pub returns : goal.returns
 returns c =
     let words = c.group_stands.ensures in
     let eight = words.eight in
-    group_is (c.args.group.now).0 words.eight (λ i lt. words.each i (omega arith))
+    group_is c.lines_hold.ensures (c.args.group.now).0 words.eight (λ i lt. words.each i (omega arith))

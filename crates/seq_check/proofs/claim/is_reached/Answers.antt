@@ -8,7 +8,6 @@ use Rattle.std.specs.Prelude.{nat_le}
 use Rattle.seq_check.proofs.LeastSums.{bounds_reach, counted_sum}
 use Rattle.seq_inst.specs.Instances.{problem_of}
 use Rattle.seq_inst.specs.Members.{members}
-use Rattle.seq_inst.proofs.WithinLaws.{within-pass, within-fail}
 use Rattle.seq_check.proofs.claim.is_reached.Goals as goal
 
 pub counted-pass-requires-clause-within : goal.counted-pass-requires-clause-within

@@ -6,12 +6,12 @@ pub add_state-requires-clause-few : goal.add_state-requires-clause-few
 add_state-requires-clause-few c = grouped-few c.args.matrix.now c.requires c.loop-state.state (omega arith) _ _ _ c.loop-state.invariant
 
 pub add_state-requires-clause-room : goal.add_state-requires-clause-room
-add_state-requires-clause-room c = λ k. grouped-room c.args.matrix.now c.requires c.loop-state.state (omega arith) _ _ _ c.loop-state.invariant k c.weight_of_state.result c.weight_of_state.ensures
+add_state-requires-clause-room c = λ k. grouped-room c.args.matrix.now c.requires c.loop-state.state (omega arith) _ _ _ c.loop-state.invariant k c.weight.result c.weight.ensures
 
 pub loop-state-preserved : goal.loop-state-preserved
 loop-state-preserved c =
-    grouped-more c.args.matrix.now c.requires c.loop-state.state (omega arith) _ _ _ c.loop-state.invariant c.row_of.result c.weight_of_state.result _ _ _ c.row_of.ensures
-    c.weight_of_state.ensures c.in_ok-add_state.ensures.words c.in_ok-add_state.ensures.rows c.in_ok-add_state.ensures.class c.in_ok-add_state.ensures.weights
+    grouped-more c.args.matrix.now c.requires c.loop-state.state (omega arith) _ _ _ c.loop-state.invariant c.row.result c.weight.result _ _ _ c.row.ensures
+    c.weight.ensures c.in_ok-add_state.ensures.words c.in_ok-add_state.ensures.rows c.in_ok-add_state.ensures.class c.in_ok-add_state.ensures.weights
 
 pub returns : goal.returns
 returns c = grouped-all c.args.matrix.now c.requires c.loop-state.state (omega arith) _ c.loop-state.classes c.loop-state.invariant

@@ -3,11 +3,10 @@ use Rattle.seq_theory.specs.Problem.{count_up}
 use Rattle.seq_theory.specs.States.{class_of}
 use Rattle.sig_lines.specs.declared.labels.StateLabel.{StateLabel}
 use Rattle.sig_matrix.specs.declared.matrix.Matrix.{Matrix}
-use Rattle.sig_matrix.specs.Detection.{system_of, state_weight}
-use Rattle.sig_classes.specs.States.{state_name}
+use Rattle.sig_matrix.specs.Detection.{system_of, state_weight, state_name}
 use Rattle.sig_classes.specs.Labels.{state_label}
-use Rattle.sig_classes.proofs.ClassesLaws.{length-classes, class-read}
-use Rattle.sig_classes.proofs.CountLaws.{by_number_more}
+use Rattle.sig_classes.proofs.ClassesLaws.{class-read}
+use Rattle.seq_theory.proofs.ByNumberLaws.{by_number_more}
 use Rattle.sig_classes.proofs.labels.state_labels.Goals as goal
 
 -- one more state's label
@@ -25,12 +24,12 @@ labels_more matrix n weight class name is_weight is_name is_class before after s
     ∙ by_number_more (state_label matrix) n ∙ ap (λ k. map (state_label matrix) (count_up 0 k)) next
 
 pub index-requires : goal.index-requires
-index-requires c = let long = length-classes (system_of c.args.matrix.now) c.args.classes.now c.requires.classes in omega arith
+index-requires c = let long = c.requires.classes.states in omega arith
 
 pub loop-state-preserved : goal.loop-state-preserved
 loop-state-preserved c =
     let matrix = c.args.matrix.now in
     let n = c.loop-state.state in
     let class = class-read (system_of matrix) c.args.classes.now c.requires.classes n c.index.result.now (omega arith) c.index.ensures in
-    labels_more matrix n c.weight_of_state.result c.index.result.now c.in_ok-name_of.field-0 c.weight_of_state.ensures c.in_ok-name_of.ensures class c.loop-state.states c.push.new.self
+    labels_more matrix n c.weight.result c.index.result.now c.in_ok-of.field-0 c.weight.ensures (c.in_ok-of.ensures ∙ c.label.ensures) class c.loop-state.states c.push.new.self
     c.loop-state.invariant c.in_ok-push.ensures.ok

@@ -2,7 +2,7 @@ use Rattle.std.proofs.Common.{◌≡◌, ◌+◌, length, get_or, set, take, ap,
 use Rattle.std.proofs.lemmas.Grind.{common_steps}
 use Rattle.std.proofs.lemmas.List.{get_or_read, take_more, length-take-le}
 use Rattle.sig_figures.specs.Counts.{times_in, counts_of}
-use Rattle.sig_classes.proofs.CountLaws.{length-by_number, get_or-by_number}
+use Rattle.seq_theory.proofs.ByNumberLaws.{length-by_number, get_or-by_number}
 use Rattle.sig_figures.proofs.SizeLaws.{counts-none, counts-more, count-small}
 use Rattle.sig_figures.proofs.sizes.counts_of.Goals as goal
 

@@ -2,9 +2,7 @@ use Rattle.std.proofs.Common.{◌≡◌, suc, ◌+◌, ◌<◌, ◌∷◌, ◌++
 use Rattle.std.proofs.lemmas.List.{get_or_read}
 use Rattle.seq_theory.specs.Problem.{count_up}
 use Rattle.sig_matrix.specs.Detection.{system_of}
-use Rattle.sig_classes.proofs.ClassesLaws.{length-classes}
-use Rattle.sig_classes.proofs.CountLaws.{length-by_number, by_number_more}
-use Rattle.sig_classes.proofs.GroupingLaws.{few}
+use Rattle.seq_theory.proofs.ByNumberLaws.{length-by_number, by_number_more}
 use Rattle.sig_figures.specs.Counts.{times_in}
 use Rattle.sig_figures.specs.Sizes.{group_size}
 use Rattle.sig_figures.proofs.SizeLaws.{classes-small, class-at, class-below, group-read}
@@ -16,12 +14,12 @@ counts_of-requires-clause-below c = classes-small (system_of c.args.matrix.now) 
 pub counts_of-requires-clause-few : goal.counts_of-requires-clause-few
 counts_of-requires-clause-few c =
     let as_long = ap length c.as_slice.ensures.value in
-    let long = length-classes (system_of c.args.matrix.now) c.args.classes.now c.requires.classes in
-    let small = few c.args.matrix.now c.requires.valid in
+    let long = c.requires.classes.states in
+    let small = c.requires.valid.many in
     omega arith
 
 pub index-class-requires : goal.index-class-requires
-index-class-requires c = let long = length-classes (system_of c.args.matrix.now) c.args.classes.now c.requires.classes in omega arith
+index-class-requires c = let long = c.requires.classes.states in omega arith
 
 pub index-requires : goal.index-requires
 index-requires c =

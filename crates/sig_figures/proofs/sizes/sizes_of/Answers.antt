@@ -1,6 +1,5 @@
 use Rattle.std.proofs.Common.{◌+◌, length, ap, ◌∙◌, arith}
-use Rattle.sig_classes.proofs.CountLaws.{length-by_number}
-use Rattle.sig_classes.proofs.GroupingLaws.{few}
+use Rattle.seq_theory.proofs.ByNumberLaws.{length-by_number}
 use Rattle.sig_figures.specs.Counts.{times_in, counts_of}
 use Rattle.sig_figures.specs.Sizes.{group_size}
 use Rattle.sig_figures.proofs.SizeLaws.{sizes-small, sizes-counted}
@@ -18,7 +17,7 @@ counts_of-requires-clause-few c =
 pub some_counts-requires : goal.some_counts-requires
 some_counts-requires c =
     let long = ap length (c.as_slice-2.ensures.value ∙ c.in_ok-counts.ensures) ∙ length-by_number (times_in c.as_slice.result.now) (c.states.result + 1) in
-    let small = few c.args.matrix.now c.requires.valid in
+    let small = c.requires.valid.many in
     omega arith
 
 pub returns : goal.returns

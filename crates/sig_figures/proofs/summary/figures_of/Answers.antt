@@ -1,16 +1,14 @@
 use Rattle.std.proofs.Common.{arith}
 use Rattle.sig_matrix.specs.Detection.{system_of}
-use Rattle.sig_classes.proofs.ClassesLaws.{length-weights}
-use Rattle.sig_classes.proofs.GroupingLaws.{begun-le, few}
 use Rattle.sig_figures.proofs.NamedLaws.{figures-named}
 use Rattle.sig_figures.proofs.summary.figures_of.Goals as goal
 
 pub overflow_cast-result-3 : goal.overflow_cast-result-3
 overflow_cast-result-3 c =
     let matrix = c.args.matrix.now in
-    let many = length-weights (system_of matrix) c.args.classes.now c.requires.classes in
-    let le = begun-le (system_of matrix) (system_of matrix).states in
-    let small = few matrix c.requires.valid in
+    let many = c.requires.classes.as_many in
+    let le = c.requires.classes.few in
+    let small = c.requires.valid.many in
     omega arith
 
 pub returns-clause-figures : goal.returns-clause-figures
@@ -19,7 +17,7 @@ returns-clause-figures c = record {
   tests = c.len-2.ensures;
   fault_weight = c.fault_weight.ensures;
   detected_weight = c.detected_weight.ensures;
-  classes = (let many = length-weights (system_of c.args.matrix.now) c.args.classes.now c.requires.classes in omega arith);
+  classes = (let many = c.requires.classes.as_many in omega arith);
   sizes = c.in_ok-sizes.ensures;
   undetected = c.in_ok-undetected.ensures;
   blind = c.in_ok-blind.ensures;

@@ -1,5 +1,4 @@
-use Rattle.std.proofs.Common.{List, Vec, Global, ◌≡◌, ◌<◌, ◌+◌, ℕ, length, get_or, map, replicate, rules, sym, ap, ◌∙◌, subst, arith}
-use Rattle.std.proofs.lemmas.Grind.{common_steps}
+use Rattle.std.proofs.Common.{List, Vec, Global, ◌≡◌, ◌<◌, ◌+◌, ℕ, length, get_or, map, replicate, sym, ap, ◌∙◌, subst, arith}
 use Rattle.std.proofs.lemmas.List.{length-map}
 use Rattle.std.proofs.lemmas.List.Elements.{All-get_or, Contains-get_or}
 use Rattle.sig_flat.specs.declared.flat.FlatTest.{FlatTest}
@@ -11,8 +10,8 @@ use Rattle.sig_matrix.proofs.building.rows_of.Goals.{then-is_used+in_ok-wanted+i
 
 pub loop-mode-init : goal.loop-mode-init
 loop-mode-init c =
-    let empty : c.in_ok-rows.rows.items ≡ replicate (length c.args.flat.now.faults) (replicate {A = ℕ} 4 0) = grind (arith, common_steps) in
-    rows-none c.args.flat.now (map (test_at c.args.flat.now.tests) c.args.numbers.now) c.in_ok-rows.rows.items empty
+    let none : c.in_ok-rows.rows.items ≡ replicate (length c.args.flat.now.faults) (replicate {A = ℕ} 4 0) = c.in_ok-rows.ensures ∙ ap (λ n. replicate n (replicate {A = ℕ} 4 0)) c.len.ensures in
+    rows-none c.args.flat.now (map (test_at c.args.flat.now.tests) c.args.numbers.now) c.in_ok-rows.rows.items none
 
 pub loop-mode-preserved : goal.loop-mode-preserved
 loop-mode-preserved c =
