@@ -13,7 +13,6 @@ use Rattle.seq_inst.specs.declared.instance.Instance.{Instance}
 use Rattle.seq_inst.specs.declared.outcome.Row.{Row}
 use Rattle.seq_inst.specs.Members.{members}
 use Rattle.seq_inst.specs.Instances.{problem_of}
-use Rattle.seq_huff.proofs.GreedyCode.{greedy-small}
 use Rattle.seq_core.specs.declared.event.Event.{Event}
 use Rattle.seq_core.specs.declared.event.Event.TheVariants.{Enter, Raise, Cap}
 use Rattle.seq_core.specs.declared.event.Illegal.{Illegal}
@@ -45,7 +44,7 @@ sound-fit inst limit rows s x i =
     let under = bound-le-least p x.group inst.stands.weighed inst.valid.told within in
     let b = least-le-greedy p x.group inst.valid.told within in
     let g = ap (λ (y : TheoryRow). greedy_cost p y.group) c.1 in
-    let d = greedy-small inst (c.0).group wc in
+    let d = inst.stands.greedy_fits (c.0).group wc in
     record { within = within; goals = real.goals; small = omega arith }
 
 -- the least cost of each row's group lies between its low and its up

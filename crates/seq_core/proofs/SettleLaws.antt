@@ -22,7 +22,6 @@ use Rattle.seq_inst.specs.declared.outcome.Row.{Row}
 use Rattle.seq_inst.specs.Members.{members}
 use Rattle.seq_inst.specs.Instances.{problem_of}
 use Rattle.seq_huff.specs.Bounds.{greatest_cost}
-use Rattle.seq_huff.proofs.GreedyCode.{greedy-small}
 use Rattle.seq_core.specs.RowsOf.{row_of, rows_of, place_in}
 use Rattle.seq_core.specs.Changes.{new_row}
 use Rattle.seq_core.specs.Settled.{groups_in, value_or, AreGroups, settled_row, settled_rows, first_row, row_at, size_at, MaySettle, AreSettling, AreDoneBelow}
@@ -56,7 +55,7 @@ entered-value inst entered g within e i =
     let p = problem_of inst in
     let rest = filter_map (step_value p (val p entered) (members g)) (splitting p (members g)) in
     let f = least_of-first (greedy_cost p (members g)) rest in
-    let l = greedy-small inst g within in
+    let l = inst.stands.greedy_fits g within in
     record {
       value = least_of (greedy_cost p (members g) ∷ rest);
       is = val-entered p entered (members g) e i;

@@ -16,8 +16,7 @@ use Rattle.seq_inst.specs.Members.{members}
 use Rattle.seq_inst.specs.Instances.{problem_of}
 use Rattle.seq_huff.specs.Bounds.{greatest_cost}
 use Rattle.seq_huff.specs.Orders.{IsUpwardBy}
-use Rattle.seq_huff.proofs.CountedLaws.{counted-length, counted-there, counted-below}
-use Rattle.seq_huff.proofs.GreedyCode.{greedy-small}
+use Rattle.seq_theory.proofs.CountedLaws.{counted-length, counted-there, counted-below}
 use Rattle.seq_core.specs.RowsOf.{row_of, rows_of, IsFit, AreFit}
 use Rattle.seq_core.specs.Changes.{new_row, change_row, raised, capped}
 use Rattle.seq_core.specs.Allowed.{IsMostLow, IsLeastUp, tight_row, tightened}
@@ -65,7 +64,7 @@ low-fits : (inst : Instance) (entered : List (List ℕ)) (g : Group) → IsWithi
 low-fits inst entered g within =
     let a = low-le-least (problem_of inst) entered (members g) inst.stands.weighed inst.valid.told within in
     let b = least-le-greedy (problem_of inst) (members g) inst.valid.told within in
-    let c = greedy-small inst g within in
+    let c = inst.stands.greedy_fits g within in
     omega arith
 
 abbrev pub HasOrder : List Row → List ℕ → Type 0

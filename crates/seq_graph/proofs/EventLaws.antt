@@ -23,7 +23,6 @@ use Rattle.seq_graph.specs.Known.{AreRows, HasSmallUp, no_row, row_at, group_at,
 use Rattle.seq_graph.proofs.KnownLaws.{sized, row-bounds, row-within}
 use Rattle.std.specs.List.{filter_map}
 use Rattle.seq_theory.proofs.ValLaws.{least_of-first}
-use Rattle.seq_huff.proofs.GreedyCode.{greedy-small}
 
 -- ---- lists of rows ----
 
@@ -202,7 +201,7 @@ entered-known inst rows g up known real new up_is =
     let fresh : PlainRow = record { group = members g; low = 0; up = no_value } in
     let long = length-append rows (row ∷ []) in
     let more = length-from rows in
-    let small = greedy-small inst g (wanted-within p (members g) real.wanted) in
+    let small = inst.stands.greedy_fits g (wanted-within p (members g) real.wanted) in
     let first = least_of-first (greedy_cost p (members g)) (filter_map (step_value p (known_up p (rows_from rows ++ fresh ∷ [])) (members g)) (splitting p (members g))) in
     let least : min no_value up ≡ up = omega arith in
     let same : rows_from (rows ++ row ∷ []) ≡ change_at (rows_from rows ++ fresh ∷ []) (length (rows_from rows)) (λ r. record { group = r.group; low = r.low; up = min r.up up }) =
@@ -228,7 +227,7 @@ back_up-holds inst rows raised new k low up known lt low_is above below raised_i
     let g = members (group_at rows k) in
     let least = least_up p (rows_from rows) g in
     let to = max up least in
-    let small = greedy-small inst (group_at rows k) (row-within p rows known k lt) in
+    let small = inst.stands.greedy_fits (group_at rows k) (row-within p rows known k lt) in
     let first = least_of-first (greedy_cost p g) (filter_map (step_value p (known_up p (rows_from rows)) g) (splitting p g)) in
     let row : row_at (raised_at rows k low) k ≡ record (row_at rows k) { low = max (row_at rows k).low low } = get_or-set_same rows k _ no_row lt in
     let both : min (row_at (raised_at rows k low) k).up up ≡ min (row_at (raised_at rows k low) k).up to = (let e = ap (λ (r : Row). r.up) row in omega arith) in

@@ -18,7 +18,7 @@ use Rattle.seq_inst.specs.Members.{members}
 use Rattle.seq_inst.specs.Instances.{problem_of}
 use Rattle.seq_huff.specs.Bounds.{greatest_cost}
 use Rattle.seq_theory.proofs.BelowLaws.{product-le}
-use Rattle.seq_huff.proofs.GreedyCode.{greedy_parts, greedy-small}
+use Rattle.seq_theory.proofs.GreedyParts.{greedy_parts}
 use Rattle.seq_graph.specs.declared.greedy.Chosen.{Chosen}
 use Rattle.seq_graph.specs.GreedyChoice.{IsNoLater, IsEvaluated, evaluated}
 use Rattle.seq_graph.specs.Numbered.{Numbered, capacity, AreNumbers, KeepsNumbers}
@@ -214,7 +214,7 @@ greedy-step inst g pass fail test cost weight a b within more is pe fe c w ea eb
     let product = ap (λ x. x * weight) c ∙ ap (λ x. p.cost test * x) w in
     let total = parts.cost in
     let value : cost * weight + (a + b) ≡ greedy_cost p (members g) = omega arith in
-    let s = greedy-small inst g within in
+    let s = inst.stands.greedy_fits g within in
     record {
       product = sum-fits inst g cost weight test within parts.there c w;
       value = value;

@@ -15,7 +15,6 @@ use Rattle.seq_inst.specs.declared.group.Group.{Group}
 use Rattle.seq_inst.specs.declared.instance.Instance.{Instance}
 use Rattle.seq_inst.specs.Members.{members}
 use Rattle.seq_inst.specs.Instances.{problem_of}
-use Rattle.seq_inst.proofs.PartsLaws.{is_end-length}
 use Rattle.seq_graph.specs.declared.node.Node.{Node}
 use Rattle.seq_graph.specs.declared.node.Split.{Split}
 use Rattle.seq_graph.specs.declared.node.Waiting.{Waiting}
@@ -342,7 +341,7 @@ pub tests-none : (inst : Instance) (g : Group) (v : Numbered) → is_end (proble
     → AreTestsOf (problem_of inst) v (members g) (step_sum (problem_of inst) (bound (problem_of inst)) (members g)) (greedy_cost (problem_of inst) (members g)) listed waiting
 tests-none inst g v end listed waiting none none_wait =
     let p = problem_of inst in
-    let one = leb-true (length (members g)) 1 (is_end-length inst g ∙ end) in
+    let one = leb-true (length (members g)) 1 (inst.stands.ends g ∙ end) in
     record {
       covers = λ t h.
           let there = filter_passes (splits p (members g)) t (count_up 0 p.tests) h in

@@ -16,10 +16,9 @@ use Rattle.seq_theory.proofs.BelowLaws.{product-le}
 use Rattle.seq_inst.specs.declared.group.Group.{Group}
 use Rattle.seq_inst.specs.declared.instance.Instance.{Instance}
 use Rattle.seq_inst.specs.declared.outcome.Row.{Row}
-use Rattle.seq_inst.specs.Members.{members}
+use Rattle.seq_inst.specs.Members.{has_class, members}
 use Rattle.seq_inst.specs.Instances.{problem_of}
-use Rattle.seq_inst.proofs.MembersLaws.{length-members_below}
-use Rattle.seq_inst.proofs.WithinLaws.{light}
+use Rattle.seq_theory.proofs.BelowLaws.{length-passing}
 use Rattle.seq_core.specs.RowsOf.{row_of as row_from, rows_of as rows_from}
 use Rattle.seq_graph.proofs.RowLaws.{row-among}
 use Rattle.seq_graph.specs.Known.{AreRows, no_row, row_at, group_at}
@@ -96,7 +95,7 @@ pub record IsLight (p : Problem) (xs : List ℕ) : Type 0 where
 
 module _ (inst : Instance) where
   pub light-group : (g : Group) → IsWithin (problem_of inst) (members g) → IsLight (problem_of inst) (members g)
-  light-group g within = record { within = within; short = length-members_below g 512; light = inst.stands.light g within }
+  light-group g within = record { within = within; short = length-passing (has_class g) 512; light = inst.stands.light g within }
 
   pub light-pass : (t : ℕ) (xs : List ℕ) → IsLight (problem_of inst) xs → IsLight (problem_of inst) (pass_part (problem_of inst) t xs)
   light-pass t xs h = record {

@@ -14,7 +14,7 @@ use Rattle.seq_theory.proofs.GreedyLaws.{part-within}
 use Rattle.seq_theory.proofs.PartsRecursion.{splitting-splits}
 use Rattle.seq_theory.proofs.LowLaws.{low-le-least}
 use Rattle.seq_theory.proofs.ValLaws.{least-le-val, least_of-first, least_of-values-le, IsLeastValue, is_first, is_at, least_value, values-at_least, sum_with-parts}
-use Rattle.seq_huff.proofs.CountedLaws.{counted-length, counted-below}
+use Rattle.seq_theory.proofs.CountedLaws.{counted-length, counted-below}
 use Rattle.seq_inst.specs.declared.group.Group.{Group}
 use Rattle.seq_inst.specs.declared.instance.Instance.{Instance}
 use Rattle.seq_inst.specs.declared.outcome.Row.{Row}

@@ -1,5 +1,5 @@
 -- The tests that are kept of a group, one by one: each splits it and has the numbers of its parts.
-use Rattle.std.proofs.Common.{◌≡◌, ℕ, zero, suc, ◌<◌, ◌≤◌, List, [], ◌∷◌, ◌++◌, length, length-append, get_or, set, slice_get, Contains, Option, None, Some, refl, sym, ap, arith, subst}
+use Rattle.std.proofs.Common.{◌≡◌, ◌∙◌, ℕ, zero, suc, ◌-◌, ◌<◌, ◌≤◌, List, [], ◌∷◌, ◌++◌, length, length-append, get_or, set, slice_get, Contains, Option, None, Some, refl, sym, ap, arith, subst}
 use Rattle.std.proofs.lemmas.List.Elements.{All-contains, Contains-push}
 use Rattle.std.proofs.lemmas.Option.{slice_get_read}
 use Rattle.seq_theory.specs.Problem.{Problem, IsIn, splitting}
@@ -92,3 +92,14 @@ module _ (inst : Instance) (rows : List Row) (known : AreRows (problem_of inst) 
       let c = (row-bounds p rows known inst.stands.weighed inst.valid.told place lt).1 in
       let e = first-test.least in
       omega arith
+
+-- the last of a list with one more test
+at-end : (xs : List Split) (x d : Split) → get_or (xs ++ x ∷ []) (length xs) d ≡ x
+at-end [] x d = refl
+at-end (y ∷ ys) x d = at-end ys x d
+
+pub last-read : (l xs : List Split) (x d : Split) → l ≡ xs ++ x ∷ [] → get_or l (length l - 1) d ≡ x
+last-read l xs x d e =
+    let long = length-append xs (x ∷ []) in
+    let at : length (xs ++ x ∷ []) - 1 ≡ length xs = omega arith in
+    ap (λ m. get_or m (length m - 1) d) e ∙ ap (λ n. get_or (xs ++ x ∷ []) n d) at ∙ at-end xs x d

@@ -15,7 +15,6 @@ ghost use Rattle.seq_graph.specs.Steps.{least_test as least_test_of, ClosesBelow
 use crate::choice::{Chosen, least_test, least_up};
 use crate::counts::count_new;
 use crate::graph::{Count, Graph};
-use crate::look::{look, look_at_all};
 use crate::node::Node;
 use crate::sums::{leave_out, leave_out_waiting};
 use seq_huff::Scratch;
@@ -100,7 +99,6 @@ pub fn back_up(
     ensures narrows { IfOk result (λ _. Narrows graph.old.rows.items graph.new.rows.items) }
     ensures closes { IfOk result (λ _. ClosesBelow (problem_of inst.now) graph.old.rows.items (members (group_at graph.old.rows.items place)) → IsClosedAt graph.new.rows.items place) }
 {
-    look(scratch, inst, graph, place)?;
     let chosen = least_test(scratch, inst, graph, place)?;
     revise(inst, graph, place, chosen);
     prune(inst, graph, place);
@@ -142,7 +140,6 @@ pub(crate) fn add(
         up: kept.greedy,
     })?;
     graph.nodes.push(kept)?;
-    graph.looks.push(place + 1)?;
     Ok(())
 }
 
@@ -177,7 +174,6 @@ pub fn enter(
 {
     let place = graph.rows.len();
     add(alloc, scratch, inst, graph, group)?;
-    look_at_all(scratch, inst, graph, place)?;
     back_up(scratch, inst, graph, place)?;
     give_back(inst, graph, place);
     Ok(())

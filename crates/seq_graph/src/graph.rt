@@ -29,8 +29,6 @@ pub struct Graph {
     pub nodes: Vec<Node>,
     /// By number.
     pub counts: Vec<Count>,
-    /// How many rows there were when the tests of a group that wait were last looked through, by place.
-    pub looks: Vec<usize>,
 }
 
 impl Graph {
@@ -45,7 +43,6 @@ impl Graph {
             rows: Vec::new(alloc),
             nodes: Vec::new(alloc),
             counts: Vec::new(alloc),
-            looks: Vec::new(alloc),
         })
     }
 }

@@ -8,8 +8,9 @@
 //! cost in whole numbers is this project's own. Everything is stated over plain numbers and lists;
 //! the code's types are read into it by one definition each, in the crates above.
 //!
-//! No edit is tried here, since an edit of a definition shows nothing of a program. What the definitions say
-//! is tried on worked problems, whose numbers were found outside (`proofs/Worked.antt`).
+//! What the definitions say is tried on worked problems, whose numbers were found outside
+//! (`proofs/Worked.antt`). There is no code for an edit to turn, so the edits turn a definition: each shows
+//! that the laws do not hold of a word that is nearly the right one, and nothing of a program.
 #![tactic(auto)]
 
 mod laws;

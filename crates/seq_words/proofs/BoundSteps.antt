@@ -8,7 +8,7 @@ use Rattle.seq_inst.specs.declared.outcome.Row.{Row}
 use Rattle.seq_inst.specs.Instances.{problem_of}
 use Rattle.seq_words.specs.declared.view.Known.{Known}
 use Rattle.seq_words.specs.declared.view.Role.TheVariants.{Spent}
-use Rattle.seq_words.specs.RowsOf.{rows_of}
+use Rattle.seq_core.specs.RowsOf.{rows_of}
 use Rattle.seq_words.specs.Layout.{bits_at, state_at, low_at, up_at, core_of}
 use Rattle.seq_words.specs.Knowledge.{known, low_seen, up_seen, MayRaise, MayCap, IsLowAt, IsUpAt}
 use Rattle.seq_words.specs.Rule.{Kept}

@@ -12,7 +12,7 @@ use Rattle.seq_inst.specs.declared.outcome.Row.{Row}
 use Rattle.seq_inst.specs.Instances.{problem_of}
 use Rattle.seq_words.specs.declared.view.Known.{Known}
 use Rattle.seq_words.specs.declared.view.View.{View}
-use Rattle.seq_words.specs.RowsOf.{rows_of}
+use Rattle.seq_core.specs.RowsOf.{rows_of}
 use Rattle.seq_words.specs.Layout.{state_at, low_at, up_at, row_held, core_of}
 use Rattle.seq_words.specs.Knowledge.{unknown, known, Covers}
 use Rattle.seq_words.specs.Rule.{Kept}

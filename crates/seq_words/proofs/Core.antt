@@ -6,7 +6,7 @@ use Rattle.std.proofs.lemmas.List.{get_or-set_other}
 use Rattle.std.proofs.lemmas.Grind.{get_or-set_at}
 use mathlib.Core.Logic.{dite}
 use native.Mathlib.Decide.{ℕ_discrete}
-use Rattle.seq_words.specs.RowsOf.{first_row, row_at}
+use Rattle.seq_core.specs.Settled.{first_row, row_at}
 use Rattle.seq_words.specs.Layout.{span, row_held, core_of}
 
 -- two lists are one where they have the same elements

@@ -7,7 +7,9 @@ use Rattle.seq_theory.specs.Rows.{Row as TheoryRow}
 use Rattle.seq_inst.specs.declared.outcome.Row.{Row}
 use Rattle.seq_inst.specs.Instances.{problem_of}
 use Rattle.seq_words.specs.declared.view.Told.{Told}
-use Rattle.seq_words.specs.RowsOf.{row_of, rows_of, row_at, classes_of}
+use Rattle.seq_core.specs.RowsOf.{row_of, rows_of}
+use Rattle.seq_core.specs.Settled.{row_at}
+use Rattle.seq_core.specs.Words.{classes_of}
 use Rattle.seq_words.specs.Layout.{bits_at, state_at, low_at, up_at, span, row_held, core_of}
 use Rattle.seq_words.specs.Knowledge.{problem_in, known_rows, group_at}
 use Rattle.seq_words.specs.Laws.{IsPlayed, PublishingEnters, RaisingRaises, LoweringCaps, WritingLeaves}

@@ -13,7 +13,9 @@ use Rattle.seq_inst.specs.declared.instance.Instance.{Instance}
 use Rattle.seq_inst.specs.declared.outcome.Row.{Row}
 use Rattle.seq_inst.specs.Instances.{problem_of}
 use Rattle.seq_inst.specs.Members.{members}
-use Rattle.seq_words.specs.RowsOf.{row_of, rows_of, row_at, classes_of}
+use Rattle.seq_core.specs.RowsOf.{row_of, rows_of}
+use Rattle.seq_core.specs.Settled.{row_at}
+use Rattle.seq_core.specs.Words.{classes_of}
 use Rattle.seq_words.specs.Knowledge.{told_of, IsLow, IsUp}
 
 -- an allowed event keeps the rows sound

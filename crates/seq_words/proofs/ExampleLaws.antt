@@ -16,7 +16,7 @@ use Rattle.seq_theory.proofs.ValLaws.{least_of-first}
 use Rattle.seq_inst.specs.declared.instance.Instance.{Instance}
 use Rattle.seq_inst.specs.Instances.{problem_of}
 use Rattle.seq_words.specs.declared.view.View.{View}
-use Rattle.seq_words.specs.RowsOf.{classes_of}
+use Rattle.seq_core.specs.Words.{classes_of}
 use Rattle.seq_words.specs.Knowledge.{told_of, problem_in, known, known_rows, group_at, MayRaise, MayCap}
 use Rattle.seq_words.specs.Rule.{opener}
 use Rattle.seq_words.specs.Plays.{as_worker, published, learnt, hears_low, hears_up}

@@ -17,7 +17,8 @@ use Rattle.seq_words.specs.declared.view.Told.{Told}
 use Rattle.seq_words.specs.declared.view.Known.{Known}
 use Rattle.seq_words.specs.declared.view.View.{View}
 use Rattle.seq_words.specs.declared.view.Role.TheVariants.{Scribe}
-use Rattle.seq_words.specs.RowsOf.{rows_of, classes_of}
+use Rattle.seq_core.specs.RowsOf.{rows_of}
+use Rattle.seq_core.specs.Words.{classes_of}
 use Rattle.seq_words.specs.Layout.{bits_at, state_at, low_at, up_at, core_of}
 use Rattle.seq_words.specs.Knowledge.{problem_in, unknown, known, heard}
 use Rattle.seq_words.specs.Rule.{Stands, Drafts, Fits, Kept}

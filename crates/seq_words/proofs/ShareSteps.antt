@@ -13,7 +13,7 @@ use Rattle.seq_inst.specs.declared.instance.Instance.{Instance}
 use Rattle.seq_words.specs.declared.view.Known.{Known}
 use Rattle.seq_words.specs.declared.view.View.{View}
 use Rattle.seq_words.specs.declared.view.Role.TheVariants.{Worker, Scribe, Spent}
-use Rattle.seq_words.specs.RowsOf.{classes_of}
+use Rattle.seq_core.specs.Words.{classes_of}
 use Rattle.seq_words.specs.Layout.{bits_at, up_at}
 use Rattle.seq_words.specs.Knowledge.{unknown, known, heard}
 use Rattle.seq_words.specs.Rule.{Stands, Fits, Kept}

@@ -19,7 +19,9 @@ use Rattle.seq_words.specs.declared.view.Known.{Known}
 use Rattle.seq_words.specs.declared.view.View.{View}
 use Rattle.seq_words.specs.declared.view.Role.{Role}
 use Rattle.seq_words.specs.declared.view.Role.TheVariants.{Worker, Scribe, Spent}
-use Rattle.seq_words.specs.RowsOf.{row_of, rows_of, row_at, classes_of}
+use Rattle.seq_core.specs.RowsOf.{row_of, rows_of}
+use Rattle.seq_core.specs.Settled.{row_at}
+use Rattle.seq_core.specs.Words.{classes_of}
 use Rattle.seq_words.specs.Layout.{bits_at, state_at, low_at, up_at, span, row_held, core_of}
 use Rattle.seq_words.specs.Knowledge.{told_of, unknown, known, heard, IsThere, is_whole, seen_row, known_rows, IsLow, IsUp, IsLowAt, IsUpAt}
 use Rattle.seq_words.specs.Rule.{Stands, Fits, Kept}

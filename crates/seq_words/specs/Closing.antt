@@ -1,7 +1,7 @@
 -- The rows of closed words.
 use Rattle.std.specs.Prelude.{◌≡◌, ◌≢◌, ℕ, ◌<◌, ◌≤◌, List, length, slice_index}
 use Rattle.seq_inst.specs.declared.outcome.Row.{Row}
-use Rattle.seq_words.specs.RowsOf.{row_at}
+use Rattle.seq_core.specs.Settled.{row_at}
 use Rattle.seq_words.specs.declared.view.View.{View}
 use Rattle.seq_words.specs.Layout.{state_at, core_of}
 use Rattle.seq_words.specs.Knowledge.{known, IsThere, low_seen, up_seen}

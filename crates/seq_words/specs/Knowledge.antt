@@ -6,7 +6,7 @@ use Rattle.seq_theory.specs.Rows.{no_value, most_low, least_up}
 use Rattle.seq_theory.specs.Rows.{Row as TheoryRow}
 use Rattle.seq_inst.specs.declared.instance.Instance.{Instance}
 use Rattle.seq_inst.specs.Valid.{problem_from}
-use Rattle.seq_words.specs.RowsOf.{classes_of}
+use Rattle.seq_core.specs.Words.{classes_of}
 use Rattle.seq_words.specs.declared.view.Told.{Told}
 use Rattle.seq_words.specs.declared.view.Known.{Known}
 use Rattle.seq_words.specs.declared.view.View.{View}

@@ -11,7 +11,8 @@ use Rattle.seq_inst.specs.declared.outcome.Row.{Row}
 use Rattle.seq_inst.specs.Instances.{problem_of}
 use Rattle.seq_words.specs.declared.view.View.{View}
 use Rattle.seq_words.specs.declared.view.Role.TheVariants.{Scribe, Spent}
-use Rattle.seq_words.specs.RowsOf.{rows_of, classes_of}
+use Rattle.seq_core.specs.RowsOf.{rows_of}
+use Rattle.seq_core.specs.Words.{classes_of}
 use Rattle.seq_words.specs.Layout.{bits_at, state_at, low_at, up_at, core_of}
 use Rattle.seq_words.specs.Knowledge.{MayRaise, MayCap}
 use Rattle.seq_words.specs.Rule.{Kept}

@@ -1,4 +1,3 @@
-pub mod RowsOf
 pub mod Layout
 pub mod Knowledge
 pub mod Rule

@@ -7,8 +7,8 @@ use Rattle.seq_theory.specs.Graph.{IsReal}
 use Rattle.seq_theory.specs.Rows.{no_value, IsSound}
 use Rattle.seq_inst.specs.declared.instance.Instance.{Instance}
 use Rattle.seq_inst.specs.Instances.{problem_of}
-use Rattle.seq_words.specs.RowsOf.{rows_of}
-use Rattle.seq_words.specs.RowsOf.{classes_of}
+use Rattle.seq_core.specs.RowsOf.{rows_of}
+use Rattle.seq_core.specs.Words.{classes_of}
 use Rattle.seq_words.specs.declared.view.Known.{Known}
 use Rattle.seq_words.specs.declared.view.View.{View}
 use Rattle.seq_words.specs.declared.view.Role.TheVariants.{Scribe, Spent}

@@ -4,7 +4,7 @@ use Rattle.atomic_table.specs.Seated.{TableId}
 use Rattle.seq_theory.specs.Graph.{IsReal}
 use Rattle.seq_inst.specs.declared.group.Group.{Group}
 use Rattle.seq_inst.specs.Members.{members}
-use Rattle.seq_words.specs.RowsOf.{classes_of}
+use Rattle.seq_core.specs.Words.{classes_of}
 use Rattle.seq_words.specs.declared.view.Told.{Told}
 use Rattle.seq_words.specs.declared.view.View.{View}
 use Rattle.seq_words.specs.declared.view.Role.TheVariants.{Scribe}

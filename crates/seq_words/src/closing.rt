@@ -3,7 +3,7 @@
 ghost use Rattle.std.specs.Prelude.{◌≡◌, ◌≤◌, ◌<◌, ◌*◌, ◌+◌, [], length, All, vec_capacity};
 ghost use Rattle.std.specs.Mem.Slots.{slots_items, slots_len, IsFull};
 ghost use Rattle.seq_theory.specs.Rows.{IsSound};
-ghost use Rattle.seq_words.specs.RowsOf.{rows_of};
+ghost use Rattle.seq_core.specs.RowsOf.{rows_of};
 ghost use Rattle.seq_words.specs.Layout.{row_held};
 ghost use Rattle.seq_words.specs.Knowledge.{problem_in, Covers};
 ghost use Rattle.seq_words.specs.Plays.{learnt, Agree};
@@ -130,7 +130,7 @@ pub fn close(words: Words, scribe: Scribe, seats: Vec<Seat>, into: Vec<Row>) -> 
     let of = Snapshot::of(&words);
     let all = gather(&words, scribe, seats);
     let Words { table, limit } = words;
-    let Scribe { seat } = all;
+    let Scribe { seat, places: _ } = all;
     let closed = table.close_with(seat);
     let rows = rows_in(&closed, limit, into);
     closed.free();

@@ -76,7 +76,7 @@ fn first(alloc: Global, inst: &Instance, limit: u32) -> Result<(Words, Scribe), 
         limit,
     };
     let (table, seat) = Table::of_words(alloc, blank.as_slice(), &terms)?;
-    Ok((Words { table, limit }, Scribe { seat }))
+    Ok((Words { table, limit }, Scribe { seat, places: 0 }))
 }
 
 /// Words of this instance for so many groups, with all places free, and so many seats. The words take

@@ -93,4 +93,5 @@ pub fn publish(words: &Words, scribe: &mut Scribe, place: u32, group: &Group)
 {
     group_stands(group);
     write_group(&words.table.shared, &mut scribe.seat, place, group);
+    scribe.places = place + 1;
 }

@@ -1,4 +1,7 @@
 //! The words and their seats, as contracts see them: which words these are, and what each seat knows.
+ghost use Rattle.std.specs.Prelude.{◌≡◌};
+ghost use Rattle.seq_words.specs.Seats.{HasPlaces};
+
 use crate::rule::Bounds;
 use crate::view::{Terms, View};
 use std::alloc::Global;
@@ -44,14 +47,25 @@ impl Model for Seat {
     ghost invariant = { λ s. (s.seat.me.1 ≡ []) × (s.seat.me.0.role ≡ Worker) };
 }
 
+impl Words {
+    /// For how many groups there are words.
+    pub fn limit(&self) -> u32
+        ensures { result ≡ self.now.limit }
+    {
+        self.limit
+    }
+}
+
 /// The one seat that publishes groups. Between its calls it is writing none.
 #[derive(Drop)]
 pub struct Scribe {
     pub(crate) seat: atomic_table::Seat<(), View>,
+    /// How many places it has published.
+    pub(crate) places: u32,
 }
 
 impl Model for Scribe {
-    ghost use Rattle.std.specs.Prelude.{◌≡◌, [], ℕ};
+    ghost use Rattle.std.specs.Prelude.{◌≡◌, []};
     ghost use Rattle.seq_words.specs.declared.view.Role.TheVariants.{Scribe};
     ghost use Rattle.seq_words.specs.Seats.{Sitting};
 
@@ -59,5 +73,14 @@ impl Model for Scribe {
 
     ghost view = { λ s. record { table = s.seat.table_id; view = s.seat.me.0 } };
 
-    ghost invariant = { λ s. (s.seat.me.1 ≡ []) × ((n : ℕ) × (s.seat.me.0.role ≡ Scribe n)) × (s.seat.me.0.stored ≡ 0) };
+    ghost invariant = { λ s. (s.seat.me.1 ≡ []) × (s.seat.me.0.role ≡ Scribe s.places) × (s.seat.me.0.stored ≡ 0) };
+}
+
+impl Scribe {
+    /// How many places it has published, which are the first ones.
+    pub fn places(&self) -> u32
+        ensures { HasPlaces result self.now.view }
+    {
+        self.places
+    }
 }

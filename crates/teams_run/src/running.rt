@@ -129,7 +129,8 @@ fn due_for<D: Shelf>(alloc: Global, plan: &Plan, shelf: &mut D) -> Result<Due, F
     }
 }
 
-/// Does what the plan asks, on one thread, and says how it ended.
+/// Does what the plan asks, on one thread whatever the number of workers, and says how it ended.
+#[tactic(auto, using(crate::proofs::EndLaws::writes))]
 pub fn run_quiet<D: Shelf, K: Sink>(
     alloc: Global,
     plan: &Plan,
@@ -154,6 +155,7 @@ pub fn run_quiet<D: Shelf, K: Sink>(
 }
 
 /// Does what the words of a command line ask, without the program's own name.
+#[tactic(auto, using(crate::proofs::EndLaws::as_plan, crate::proofs::EndLaws::no_memory, crate::proofs::EndLaws::usage))]
 pub fn run<D: Shelf, K: Sink>(
     alloc: Global,
     words: &[String],

@@ -2,7 +2,7 @@ use Rattle.std.proofs.Common.{◌≡◌, ◌∙◌, ◌++◌, ◌∷◌, [], sym
 use Rattle.std.specs.Prelude.{IsPermutation}
 use Rattle.std.proofs.lemmas.List.Sorted.{IsNonDecreasingBy-from_sort_by_key}
 use Rattle.seq_theory.specs.Problem.{count_up}
-use Rattle.seq_huff.proofs.CountedLaws.{count_up-push}
+use Rattle.seq_theory.proofs.CountedLaws.{count_up-push}
 use Rattle.seq_core.proofs.settling.by_size.Goals as goal
 
 pub loop-place-preserved : goal.loop-place-preserved

@@ -1,7 +1,7 @@
 use Rattle.std.proofs.Common.{◌≡◌, ◌<◌, ◌+◌, ◌∙◌, sym, ap, arith, subst, length, slice_index}
 use Rattle.std.proofs.lemmas.List.{get_or_read}
 use Rattle.seq_inst.specs.Instances.{problem_of}
-use Rattle.seq_huff.proofs.CountedLaws.{counted-length, counted-below}
+use Rattle.seq_theory.proofs.CountedLaws.{counted-length, counted-below}
 use Rattle.seq_core.specs.Tables.{Table}
 use Rattle.seq_core.specs.Allowed.{tightened}
 use Rattle.seq_core.specs.Settled.{IsSettledTo}

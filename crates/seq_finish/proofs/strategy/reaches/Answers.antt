@@ -2,7 +2,6 @@ use Rattle.std.proofs.Common.{◌≡◌, ◌<◌, sym, ◌∙◌, arith}
 use Rattle.std.proofs.lemmas.List.{get_or_read}
 use Rattle.seq_inst.specs.Members.{members}
 use Rattle.seq_inst.specs.Instances.{problem_of}
-use Rattle.seq_inst.proofs.WithinLaws.{light, within-pass, within-fail}
 use Rattle.seq_theory.proofs.BelowLaws.{product-le}
 use Rattle.seq_core.specs.Settled.{groups_in}
 use Rattle.seq_finish.proofs.StratLaws.{value-small}
@@ -16,7 +15,7 @@ overflow_mul-result c =
     let there : c.args.test < p.tests = omega arith in
     let cost : c.from.result ≡ p.cost c.args.test = c.from.ensures ∙ get_or_read c.args.inst.now.costs.items c.args.test c.index.result.now there c.index.ensures 0 in
     let most = (c.args.inst.now.valid.costs c.args.test there).1 in
-    let l = light c.args.inst.now c.args.group.now c.requires.within in
+    let l = c.args.inst.now.stands.light c.args.group.now c.requires.within in
     let w = c.requires.weight in
     let m = product-le c.from.result c.args.weight 1000000 4097000000 (omega arith) (omega arith) in
     omega arith
@@ -40,7 +39,7 @@ overflow_add-result-in-Some-Some c =
     let there : c.args.test < p.tests = omega arith in
     let cost : c.from.result ≡ p.cost c.args.test = c.from.ensures ∙ get_or_read c.args.inst.now.costs.items c.args.test c.index.result.now there c.index.ensures 0 in
     let most = (c.args.inst.now.valid.costs c.args.test there).1 in
-    let l = light c.args.inst.now c.args.group.now c.requires.within in
+    let l = c.args.inst.now.stands.light c.args.group.now c.requires.within in
     let w = c.requires.weight in
     let m = product-le c.from.result c.args.weight 1000000 4097000000 (omega arith) (omega arith) in
     omega arith

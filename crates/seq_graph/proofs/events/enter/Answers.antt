@@ -2,7 +2,6 @@ use Rattle.std.proofs.Common.{◌∙◌, ◌∷◌, ◌++◌, [], length, refl, 
 use Rattle.seq_theory.specs.Greedy.{greedy_cost}
 use Rattle.seq_theory.specs.Rows.{no_value}
 use Rattle.seq_theory.proofs.RowLaws.{wanted-within}
-use Rattle.seq_huff.proofs.GreedyCode.{greedy-small}
 use Rattle.seq_inst.specs.declared.outcome.Row.{Row}
 use Rattle.seq_inst.specs.Members.{members}
 use Rattle.seq_inst.specs.Instances.{problem_of}
@@ -15,8 +14,8 @@ give_back-requires-clause-place c =
     let old = c.args.graph.now.rows in
     let row : Row = record { group = c.args.group.now; low = 0; up = greedy_cost (problem_of c.args.inst.now) (members c.args.group.now) } in
     let place = c.len-place.ensures ∙ old.ok.0 in
-    let more = ap length (c.in_ok-look_at_all.ensures.rows ∙ c.in_ok-add.ensures.rows) ∙ length-append old.items (row ∷ []) in
-    let long = length-Narrows c.look_at_all.new.graph.rows.items c.back_up.new.graph.rows.items c.in_ok-back_up.ensures.narrows in
+    let more = ap length (c.in_ok-add.ensures.rows) ∙ length-append old.items (row ∷ []) in
+    let long = length-Narrows c.add.new.graph.rows.items c.back_up.new.graph.rows.items c.in_ok-back_up.ensures.narrows in
     omega arith
 
 pub returns-clause-narrows : goal.returns-clause-narrows
@@ -26,6 +25,6 @@ returns-clause-narrows c =
     let new = c.back_up.new.graph.rows.items in
     let first : Row = record { group = c.args.group.now; low = 0; up = no_value } in
     let row : Row = record { group = c.args.group.now; low = 0; up = greedy_cost p (members c.args.group.now) } in
-    let small = greedy-small c.args.inst.now c.args.group.now (wanted-within p (members c.args.group.now) c.requires.real.wanted) in
+    let small = c.args.inst.now.stands.greedy_fits c.args.group.now (wanted-within p (members c.args.group.now) c.requires.real.wanted) in
     subst (Narrows (old ++ first ∷ [])) (sym c.give_back.ensures.rows)
-    (Narrows-trans (old ++ first ∷ []) (old ++ row ∷ []) new (Narrows-last old first row refl (omega arith) (omega arith)) (subst (λ l. Narrows l new) (c.in_ok-look_at_all.ensures.rows ∙ c.in_ok-add.ensures.rows) c.in_ok-back_up.ensures.narrows))
+    (Narrows-trans (old ++ first ∷ []) (old ++ row ∷ []) new (Narrows-last old first row refl (omega arith) (omega arith)) (subst (λ l. Narrows l new) (c.in_ok-add.ensures.rows) c.in_ok-back_up.ensures.narrows))

@@ -1,7 +1,7 @@
 use Rattle.std.proofs.Common.{◌≡◌, ◌<◌, ◌∙◌, length, set, slice_index, sym, ap, arith, subst}
 use Rattle.std.proofs.lemmas.List.{get_or_read}
 use Rattle.seq_inst.specs.Instances.{problem_of}
-use Rattle.seq_huff.proofs.CountedLaws.{counted-length, counted-below}
+use Rattle.seq_theory.proofs.CountedLaws.{counted-length, counted-below}
 use Rattle.seq_core.specs.Settled.{groups_in, size_at, settled_row}
 use Rattle.seq_core.proofs.SettleSteps.{HasOrder}
 use Rattle.seq_graph.specs.Known.{row_at}

@@ -1,4 +1,5 @@
-use Rattle.std.proofs.Common.{◌∙◌, ◌∷◌, [], length, take, sym, ap, subst, arith}
+use Rattle.std.proofs.Common.{◌∙◌, ◌-◌, ◌∷◌, ◌++◌, [], length, take, set, get_or, sym, ap, subst, arith}
+use Rattle.std.proofs.Math.ListN.{length-set}
 use Rattle.std.specs.Prelude.{All, Contains}
 use Rattle.std.proofs.lemmas.List.Elements.{Contains-append_left}
 use Rattle.std.proofs.lemmas.Option.{slice_get_within}
@@ -14,7 +15,7 @@ use Rattle.seq_graph.proofs.KnownLaws.{row-within}
 use Rattle.seq_graph.proofs.NumberLaws.{keeps-long}
 use Rattle.seq_graph.proofs.CountLaws.{kept-read, counts-long}
 use Rattle.seq_graph.proofs.CountChanges.{evaluated-known}
-use Rattle.seq_graph.proofs.SplitLaws.{splits-read, splits-set, waiting-read, waiting-set}
+use Rattle.seq_graph.proofs.SplitLaws.{splits-read, splits-set, waiting-read, waiting-set, last-read}
 use Rattle.seq_graph.proofs.WaitingLaws.{length-taken, before-taken}
 use Rattle.seq_graph.proofs.waiting.evaluate.Goals as goal
 
@@ -92,3 +93,17 @@ returns-clause-listed c = λ s there.
     let before = splits-read kept c.args.place c.index_mut.result.now (omega arith) c.index_mut.ensures.value in
     let after = splits-set kept c.args.place c.evaluate.new.self (omega arith) ∙ e.splits in
     subst (λ l. Contains l s) (sym after) (Contains-append_left c.index_mut.result.now.splits.items (e.split ∷ []) s (subst (λ l. Contains l s) before there))
+
+pub returns-clause-last : goal.returns-clause-last
+returns-clause-last c =
+    let long = c.requires.known.kept_are.as_many in
+    let place = c.requires.place in
+    let nodes = c.args.graph.now.nodes.items in
+    let new = set nodes c.args.place c.evaluate.new.self in
+    let same = length-set nodes c.args.place c.evaluate.new.self in
+    let e = c.in_ok-evaluate.ensures.evaluated in
+    let before = splits-read nodes c.args.place c.index_mut.result.now (omega arith) c.index_mut.ensures.value in
+    let after = splits-set nodes c.args.place c.evaluate.new.self (omega arith) ∙ e.splits in
+    let read = c.as_slice-splits.ensures.value ∙ sym (splits-read new c.args.place c.index-2.result.now (omega arith) c.index-2.ensures) ∙ after in
+    after ∙ ap (λ s. c.index_mut.result.now.splits.items ++ s ∷ []) (sym (last-read c.as_slice-splits.result.now c.index_mut.result.now.splits.items e.split _ read))
+    ∙ ap (λ l. l ++ get_or c.as_slice-splits.result.now (length c.as_slice-splits.result.now - 1) (record { test = 0; pass = 0; fail = 0 }) ∷ []) (sym before)

@@ -16,4 +16,4 @@ load-requires c =
     let i = c.words.invariant in
     let scribe = of_inside c.words.view_is c.scribe.view_is c.requires.scribe in
     let j = c.join_seat.ensures in
-    (j.0 ∙ scribe.table, omega (arith, i.0), settles _ _ _ _ _ (scribe_live _ _ (ap (λ (x : M). x.0.role) j.2 ∙ c.scribe.invariant.1.1)))
+    (j.0 ∙ scribe.table, omega (arith, i.0), settles _ _ _ _ _ (scribe_live _ _ (ap (λ (x : M). x.0.role) j.2 ∙ c.scribe.invariant.1)))

@@ -2,7 +2,7 @@ use Rattle.std.proofs.Common.{ℕ, List, sym, subst}
 use Rattle.std.proofs.lemmas.List.Elements.{All-weaker}
 use Rattle.seq_theory.specs.Rows.{IsSound}
 use Rattle.seq_inst.specs.Instances.{problem_of}
-use Rattle.seq_words.specs.RowsOf.{rows_of}
+use Rattle.seq_core.specs.RowsOf.{rows_of}
 use Rattle.seq_words.specs.Knowledge.{problem_in}
 use Rattle.seq_words.proofs.ClosedRows.{ends, covered}
 use Rattle.seq_words.proofs.closing.close.Goals as goal

@@ -8,7 +8,7 @@ pub split_seat-copy-requires : goal.split_seat-copy-requires
 split_seat-copy-requires c =
     let i = c.words.invariant in
     let of = of_inside c.words.view_is c.scribe.view_is c.requires.scribe in
-    (of.table, omega (arith, i.0), forks _ _ _ _ (scribe_live _ _ c.scribe.invariant.1.1))
+    (of.table, omega (arith, i.0), forks _ _ _ _ (scribe_live _ _ c.scribe.invariant.1))
 
 pub join_seat-requires : goal.join_seat-requires
 join_seat-requires c =
@@ -29,4 +29,4 @@ pub invariant_of-scribe : goal.invariant_of-scribe
 invariant_of-scribe c =
     let s = c.split_seat-copy.ensures in
     let i = c.scribe.invariant in
-    (ap (λ (x : M). x.1) s.2 ∙ i.0, (i.1.0, ap (λ (x : M). x.0.role) s.2 ∙ i.1.1), ap (λ (x : M). x.0.stored) s.2 ∙ i.2)
+    (ap (λ (x : M). x.1) s.2 ∙ i.0, ap (λ (x : M). x.0.role) s.2 ∙ i.1, ap (λ (x : M). x.0.stored) s.2 ∙ i.2)

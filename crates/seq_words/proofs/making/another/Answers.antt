@@ -8,4 +8,4 @@ pub split_seat-seat-requires : goal.split_seat-seat-requires
 split_seat-seat-requires c =
     let i = c.words.invariant in
     let of = of_inside c.words.view_is c.scribe.view_is c.requires in
-    (of.table, omega (arith, i.0), forks _ _ _ _ (scribe_live _ _ c.scribe.invariant.1.1))
+    (of.table, omega (arith, i.0), forks _ _ _ _ (scribe_live _ _ c.scribe.invariant.1))

@@ -1,6 +1,6 @@
 use Rattle.std.proofs.Common.{◌≢◌, ℕ, List, length, arith, sym, ap, ◌∙◌, subst, get_or}
 use Rattle.seq_theory.specs.Graph.{IsReal}
-use Rattle.seq_words.specs.RowsOf.{classes_of}
+use Rattle.seq_core.specs.Words.{classes_of}
 use Rattle.seq_words.specs.Knowledge.{known, problem_in}
 use Rattle.seq_words.proofs.PublishSteps.{begins_at}
 use Rattle.seq_words.proofs.publishing.begin.Goals as goal

@@ -1,6 +1,6 @@
 use Rattle.std.proofs.Common.{sym, subst, ◌∙◌}
 use Rattle.seq_theory.specs.Bound.{bound, step_sum}
-use Rattle.seq_huff.proofs.GreedyCode.{cost-end}
+use Rattle.seq_theory.proofs.GreedyParts.{cost-end}
 use Rattle.seq_inst.specs.Members.{members}
 use Rattle.seq_inst.specs.Instances.{problem_of}
 use Rattle.seq_graph.specs.KeptOf.{AreTestsOf}

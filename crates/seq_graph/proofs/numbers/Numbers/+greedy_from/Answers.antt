@@ -3,7 +3,7 @@ use Rattle.std.proofs.lemmas.List.{get_or_read}
 use Rattle.seq_theory.specs.Problem.{fail_part}
 use Rattle.seq_inst.specs.Members.{members}
 use Rattle.seq_inst.specs.Instances.{problem_of}
-use Rattle.seq_huff.proofs.GreedyCode.{cost-end, greedy_there, greedy_parts, greedy-small}
+use Rattle.seq_theory.proofs.GreedyParts.{cost-end, greedy_there, greedy_parts}
 use Rattle.seq_graph.proofs.GreedyChoiceLaws.{greedy-step}
 use Rattle.seq_graph.proofs.numbers.Numbers.+greedy_from.Goals as goal
 
@@ -13,7 +13,7 @@ returns-then-is_leaf-clause-value t c = cost-end (problem_of c.args.inst.now) (m
 pub returns-in-Some-clause-fits : goal.returns-in-Some-clause-fits
 returns-in-Some-clause-fits t c =
     let e = (c.requires.numbers.greedy (members c.args.group.now) c.in-Some.known c.in-Some.ensures).cost in
-    let small = greedy-small c.args.inst.now c.args.group.now c.requires.within in
+    let small = c.args.inst.now.stands.greedy_fits c.args.group.now c.requires.within in
     omega arith
 
 pub part-pass_part-requires : goal.part-pass_part-requires

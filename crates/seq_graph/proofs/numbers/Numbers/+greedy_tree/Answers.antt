@@ -1,4 +1,5 @@
-use Rattle.std.proofs.Common.{◌∙◌, sym, ap, arith, refl}
+use Rattle.std.proofs.Common.{◌≡◌, ◌∙◌, sym, ap, arith, refl, subst}
+use Rattle.std.specs.Prelude.{IfOk}
 use Rattle.seq_theory.specs.Problem.{fail_part}
 use Rattle.seq_theory.specs.Tree.{ask}
 use Rattle.seq_theory.specs.Greedy.{greedy}
@@ -6,8 +7,7 @@ use Rattle.seq_theory.proofs.GreedyLaws.{greedy-end}
 use Rattle.seq_inst.specs.Members.{members}
 use Rattle.seq_inst.specs.Instances.{problem_of}
 use Rattle.seq_inst.specs.Trees.{tree_of}
-use Rattle.seq_huff.proofs.GreedyCode.{greedy_there, greedy_parts}
-use Rattle.seq_huff.proofs.GreedyShape.{greedy-made}
+use Rattle.seq_theory.proofs.GreedyParts.{greedy_there, greedy_parts}
 use Rattle.seq_graph.proofs.numbers.Numbers.+greedy_tree.Goals as goal
 
 pub returns-then-is_leaf-clause-value : goal.returns-then-is_leaf-clause-value
@@ -57,6 +57,6 @@ returns-clause-value t c =
     let xs = members c.args.group.now in
     let e = sym c.is_leaf.ensures ∙ c.if-is_leaf.false in
     let g = greedy_parts p xs (members c.part-pass_part.result) (members c.part-fail_part.result) c.greedy_choice-test.result c.args.inst.now.valid.told c.requires.within e c.greedy_choice-test.ensures.test c.part-pass_part.ensures.classes c.part-fail_part.ensures.classes in
-    (greedy-made c.args.inst.now c.args.group.now (ask c.greedy_choice-test.result (tree_of c.in_ok-pass.pass) (tree_of c.in_ok-fail.fail)) c.ask_first.result c.requires.within
+    subst (λ x. IfOk c.ask_first.result (λ s. tree_of s ≡ x))
     (ap (λ x. ask c.greedy_choice-test.result x (tree_of c.in_ok-fail.fail)) c.in_ok-pass.ensures.value
-    ∙ ap (λ x. ask c.greedy_choice-test.result (greedy p (members c.part-pass_part.result)) x) c.in_ok-fail.ensures.value ∙ sym g.tree) c.ask_first.ensures).value
+    ∙ ap (λ x. ask c.greedy_choice-test.result (greedy p (members c.part-pass_part.result)) x) c.in_ok-fail.ensures.value ∙ sym g.tree) c.ask_first.ensures

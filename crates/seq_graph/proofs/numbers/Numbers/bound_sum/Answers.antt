@@ -2,7 +2,6 @@ use Rattle.std.proofs.Common.{◌≡◌, ◌<◌, ◌∙◌, arith}
 use Rattle.std.proofs.lemmas.List.{get_or_read}
 use Rattle.seq_inst.specs.Members.{members}
 use Rattle.seq_inst.specs.Instances.{problem_of}
-use Rattle.seq_inst.proofs.WithinLaws.{within-pass, within-fail}
 use Rattle.seq_graph.proofs.GreedyChoiceLaws.{sum-fits}
 use Rattle.seq_graph.proofs.numbers.Numbers.bound_sum.Goals as goal
 
