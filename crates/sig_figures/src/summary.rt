@@ -56,8 +56,8 @@ pub struct EqualTest {
 }
 
 /// The figures of a flat model with its matrix and ambiguity groups, for one mode, or for all where none is named.
-/// Columns are compared by one pass over the rows for each test, a whole row at a time; the loops cost a pass over the
-/// links for each node and mode.
+/// Columns are compared by one pass over the rows for each test, a whole row at a time; the loops cost a look at each
+/// node and link for each mode.
 pub fn figures_of(
     alloc: Global,
     flat: &Flat,
