@@ -5,7 +5,7 @@ ghost use Rattle.seq_core.specs.Examples.{two_faults as two_faults_problem, star
 
 use crate::{Core, Event, Illegal, Places, lows, vals};
 use seq_huff::Scratch;
-use seq_inst::{Answer, Group, Instance, part, root};
+use seq_inst::{Answer, Group, Instance, checked_holds, part, root};
 use std::alloc::{AllocError, Global};
 use std::test::Fail;
 
@@ -20,6 +20,7 @@ fn two_faults(alloc: Global) -> Result<Instance, AllocError>
         Group([5, 0, 0, 0, 0, 0, 0, 0]),
         Group([3, 0, 0, 0, 0, 0, 0, 0]),
     ]?;
+    checked_holds();
     Ok(Instance::new(weights, costs, passes))
 }
 
@@ -35,6 +36,7 @@ fn star(alloc: Global) -> Result<Instance, AllocError>
         Group([23, 0, 0, 0, 0, 0, 0, 0]),
         Group([15, 0, 0, 0, 0, 0, 0, 0]),
     ]?;
+    checked_holds();
     Ok(Instance::new(weights, costs, passes))
 }
 

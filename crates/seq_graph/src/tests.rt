@@ -5,7 +5,7 @@ ghost use Rattle.seq_graph.specs.Numbered.{AreNumbers};
 
 use crate::{Node, Numbers, Split};
 use seq_huff::Scratch;
-use seq_inst::{Answer, Group, Instance, Strategy, part, root};
+use seq_inst::{Answer, Group, Instance, Strategy, checked_holds, part, root};
 use std::alloc::{AllocError, Global};
 use std::test::Fail;
 
@@ -18,6 +18,7 @@ fn two_faults(alloc: Global) -> Result<Instance, AllocError> {
         Group([5, 0, 0, 0, 0, 0, 0, 0]),
         Group([3, 0, 0, 0, 0, 0, 0, 0]),
     ]?;
+    checked_holds();
     Ok(Instance::new(weights, costs, passes))
 }
 

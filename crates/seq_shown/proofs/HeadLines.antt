@@ -2,7 +2,7 @@
 -- is what lies between; and there are no more groups than the limit, as many where the result is bounded, and none
 -- where one goal is left.
 use Rattle.std.proofs.Common.{◌≡◌, ℕ, suc, ◌-◌, ◌<◌, ◌≤◌, List, [], ◌∷◌, length, refl, sym, ap, subst, ◌∙◌, arith, inl, inr, ◌⊎◌}
-use Rattle.std.specs.Prelude.{true, false, not, cond, ◌||◌, nat_eq, nat_lt}
+use Rattle.std.specs.Prelude.{Bool, true, false, not, cond, ◌||◌, nat_eq, nat_lt, map}
 use Rattle.std.specs.List.{AllByRecursion}
 use Rattle.std.proofs.lemmas.Bool.{cases_Bool, cases_lt, and_from, or_right, eq-eqb, lt-ltb, le-leb, true≢false, false≢true}
 use Rattle.seq_theory.specs.Problem.{Problem, IsIn, IsWithin, IsWeighed, AreTold, all_classes, is_end}
@@ -35,17 +35,17 @@ use Rattle.seq_shown.proofs.NeededTests.{AsksWhereNeeded, strat-needed}
 use Rattle.seq_shown.proofs.DrawnLines.{tree-good, tree-drawn}
 
 -- there are as many group lines as rows
-length-placed : (x : GroupLine) (xs : List GroupLine) → length (placed is_before x xs) ≡ suc (length xs)
-length-placed x [] = refl
-length-placed x (y ∷ ys) = elim (cases_Bool (is_before y x)) [
-  | inl later ↦ rw later (ap suc (length-placed x ys))
+length-placed : (before : GroupLine → GroupLine → Bool) (x : GroupLine) (xs : List GroupLine) → length (placed before x xs) ≡ suc (length xs)
+length-placed before x [] = refl
+length-placed before x (y ∷ ys) = elim (cases_Bool (before y x)) [
+  | inl later ↦ rw later (ap suc (length-placed before x ys))
   | inr sooner ↦ rw sooner refl
 ]
 
 groups_counted : (rows : List Row) → length (in_order (map row_line rows)) ≡ length rows
 unfolding in_order
 groups_counted [] = refl
-groups_counted (r ∷ rows) = length-placed (row_line r) (ordered is_before (map row_line rows)) ∙ ap suc (groups_counted rows)
+groups_counted (r ∷ rows) = length-placed is_before (row_line r) (ordered is_before (map row_line rows)) ∙ ap suc (groups_counted rows)
 
 pub within-all : (p : Problem) → IsWithin p (all_classes p)
 within-all p c i = let h = count_up-IsIn c 0 p.classes i in omega arith

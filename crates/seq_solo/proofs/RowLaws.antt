@@ -2,7 +2,7 @@
 use Rattle.std.proofs.Common.{◌≡◌, ℕ, zero, suc, ◌<◌, List, [], ◌∷◌, ◌++◌, length, refl, sym, ap, ◌∙◌, arith, inl, inr, Option, Some, None, length-append}
 use Rattle.std.specs.Prelude.{true, slice_index_or}
 use Rattle.seq_theory.specs.Problem.{Problem}
-use Rattle.seq_theory.specs.Graph.{is_entered}
+use Rattle.seq_theory.specs.Graph.{same_group, is_entered}
 use Rattle.seq_theory.specs.Rows.{IsRow}
 use Rattle.seq_theory.proofs.RowLaws.{same_group-refl, or-left, or-right}
 use Rattle.seq_inst.specs.declared.group.Group.{Group}

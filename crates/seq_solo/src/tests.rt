@@ -3,7 +3,7 @@
 use crate::{Found, Walked, solve_alone, walk};
 use seq_graph::settle;
 use seq_huff::Scratch;
-use seq_inst::{Group, Instance, root};
+use seq_inst::{Group, Instance, checked_holds, root};
 use std::alloc::{AllocError, Global};
 use std::test::Fail;
 
@@ -16,6 +16,7 @@ fn two_faults(alloc: Global) -> Result<Instance, AllocError> {
         Group([5, 0, 0, 0, 0, 0, 0, 0]),
         Group([3, 0, 0, 0, 0, 0, 0, 0]),
     ]?;
+    checked_holds();
     Ok(Instance::new(weights, costs, passes))
 }
 
@@ -29,6 +30,7 @@ fn star(alloc: Global) -> Result<Instance, AllocError> {
         Group([23, 0, 0, 0, 0, 0, 0, 0]),
         Group([15, 0, 0, 0, 0, 0, 0, 0]),
     ]?;
+    checked_holds();
     Ok(Instance::new(weights, costs, passes))
 }
 
@@ -48,6 +50,7 @@ fn two_halves(alloc: Global) -> Result<Instance, AllocError> {
         Group([191, 0, 0, 0, 0, 0, 0, 0]),
         Group([127, 0, 0, 0, 0, 0, 0, 0]),
     ]?;
+    checked_holds();
     Ok(Instance::new(weights, costs, passes))
 }
 
@@ -64,6 +67,7 @@ fn crossed(alloc: Global) -> Result<Instance, AllocError> {
         Group([33, 0, 0, 0, 0, 0, 0, 0]),
         Group([55, 0, 0, 0, 0, 0, 0, 0]),
     ]?;
+    checked_holds();
     Ok(Instance::new(weights, costs, passes))
 }
 
@@ -72,6 +76,7 @@ fn one_class(alloc: Global) -> Result<Instance, AllocError> {
     let weights = vec![in alloc; 6]?;
     let costs = Vec::new(alloc);
     let passes = Vec::new(alloc);
+    checked_holds();
     Ok(Instance::new(weights, costs, passes))
 }
 

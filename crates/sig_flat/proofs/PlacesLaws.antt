@@ -22,6 +22,22 @@ none-place p xs e = let le = place-le-length p xs in let h : nat_lt (position_or
     told true k e = cc
     told false k e = refl
 
+-- a place that was found is the first one, and it is there
+pub some-place : {X : Type 0} (p : X → Bool) (xs : List X) (k : ℕ) → position p xs ≡ Some k → (k ≡ position_or_len p xs) × (k < length xs)
+some-place p xs k e = elim (cases_lt (position_or_len p xs) (length xs)) [
+  | inl lt ↦
+      (let found = sym (cond-true (nat_lt (position_or_len p xs) (length xs)) (Some (position_or_len p xs)) None (lt-ltb (position_or_len p xs) (length xs) lt)) ∙ e in
+      let same = some_same (position_or_len p xs) k found in
+      (sym same, omega arith))
+  | inr ge ↦ absurd (none_some k (sym (cond-false (nat_lt (position_or_len p xs) (length xs)) (Some (position_or_len p xs)) None (le-ltb (position_or_len p xs) (length xs) (omega arith))) ∙ e))
+]
+  where
+    some_same : (a b : ℕ) → Some a ≡ Some b → a ≡ b
+    some_same a b e = cc
+
+    none_some : (k : ℕ) → None ≡ Some k → ⊥
+    none_some k e = cc
+
 pub position-push : {X : Type 0} (p : X → Bool) (xs : List X) (x : X) → position p (xs ++ x ∷ []) ≡ or_last (position p xs) (p x) (length xs)
 position-push p xs x =
     let more = position_or_len_push p xs x in

@@ -58,7 +58,6 @@ pub record AreCounts (model : Model) (k : ℕ) (counts : Counts) : Type 0 where
   pub tests : counts.tests ≡ in_word (size (tests_of_blocks model) (numbers_of model) k)
 
 pub record IsSurvey (model : Model) (survey : Survey) : Type 0 where
-  pub modes : survey.modes ≡ model.modes
   pub patterns : survey.patterns.items ≡ patterns_of_model model
   pub numbers : survey.numbers.items ≡ numbers_of model
   pub counts_long : length survey.counts.items ≡ length model.blocks

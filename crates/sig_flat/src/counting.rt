@@ -8,7 +8,7 @@ ghost use Rattle.sig_flat.specs.Counting.{no_counts, AreSums};
 
 use crate::counts::Counts;
 use crate::pattern::Pattern;
-use sig_types::{List, Model};
+use sig_types::{List, Valid};
 use std::alloc::{AllocError, Global};
 
 /// What stands in a block itself, and what its uses have.
@@ -26,16 +26,17 @@ fn with_uses(own: Counts, uses: &[u32], counts: &[Counts]) -> Counts
 /// For each block how much an instance of it has.
 pub fn counts_of_blocks(
     alloc: Global,
-    model: &Model,
+    valid: &Valid,
     patterns: &[Pattern],
     numbers: &[List<u32>],
 ) -> Result<Vec<Counts>, AllocError>
-    requires known { IsKnown model.now }
-    requires patterns { patterns.now ≡ patterns_of_model model.now }
-    requires numbers { numbers.now ≡ numbers_of model.now }
-    ensures long { IfOk result (λ counts. length counts.items ≡ length model.now.blocks) }
-    ensures counts { IfOk result (λ counts. (k : ℕ) → k < length model.now.blocks → AreCounts model.now k (slice_index_or counts.items k no_counts)) }
+    requires known { IsKnown valid.now }
+    requires patterns { patterns.now ≡ patterns_of_model valid.now }
+    requires numbers { numbers.now ≡ numbers_of valid.now }
+    ensures long { IfOk result (λ counts. length counts.items ≡ length valid.now.blocks) }
+    ensures counts { IfOk result (λ counts. (k : ℕ) → k < length valid.now.blocks → AreCounts valid.now k (slice_index_or counts.items k no_counts)) }
 {
+    let model = valid.model();
     let blocks = model.blocks.as_slice();
     let mut counts = Vec::with_capacity(alloc, blocks.len())?;
     for k in 0..blocks.len() {

@@ -4,7 +4,6 @@
 //! blocks, and they make the flat model.
 ghost use Rattle.std.specs.Prelude.{◌≡◌, ◌&&◌, ◌≤◌, true, nat_eq, length, None, IfOk, IfErr};
 ghost use Rattle.std.specs.Option.{option_to_list};
-ghost use Rattle.sig_types.specs.Breaches.{breaches};
 ghost use Rattle.sig_types.specs.Refused.{TellsFirst};
 ghost use Rattle.sig_flat.specs.Counts.{first_over, refusal_after, flat_refusal};
 ghost use Rattle.sig_flat.specs.Counting.{limits_of};
@@ -18,7 +17,7 @@ use crate::counts::Counts;
 use crate::flat::Flat;
 use crate::items::{Items, items_of};
 use crate::survey::{Survey, counts_of, survey_of};
-use sig_types::{Code, Good, List, Model, ModelFault, Name, Place, Refusal, Valid};
+use sig_types::{Code, Good, List, ModelFault, Name, Place, Refusal, Valid};
 use std::alloc::{AllocError, Global};
 
 /// Why no flat model comes out, where the counts say so.
@@ -62,13 +61,13 @@ fn named_modes(alloc: Global, modes: &[Name]) -> Result<List<Name>, AllocError>
 }
 
 /// The flat model that these items make.
-fn flat_of(alloc: Global, model: &Model, items: Items) -> Result<Flat, AllocError>
-    requires known { IsKnown model.now }
-    requires modes { 1 ≤ length model.now.modes }
-    requires within { flat_refusal model.now ≡ None }
-    requires items { AreItemsOf model.now items }
-    ensures { IfOk result (IsFlatOf model.now) }
+fn flat_of(alloc: Global, valid: &Valid, items: Items) -> Result<Flat, AllocError>
+    requires known { IsKnown valid.now }
+    requires within { flat_refusal valid.now ≡ None }
+    requires items { AreItemsOf valid.now items }
+    ensures { IfOk result (IsFlatOf valid.now) }
 {
+    let model = valid.model();
     let modes = named_modes(alloc, model.modes.as_slice())?;
     let Items {
         nodes,
@@ -87,25 +86,24 @@ fn flat_of(alloc: Global, model: &Model, items: Items) -> Result<Flat, AllocErro
 }
 
 /// The items of the instances, put together.
-fn unfolded(alloc: Global, model: &Model, survey: &Survey) -> Result<Flat, AllocError>
-    requires known { IsKnown model.now }
-    requires modes { 1 ≤ length model.now.modes }
-    requires survey { IsSurvey model.now survey.now }
-    requires within { flat_refusal model.now ≡ None }
-    ensures { IfOk result (IsFlatOf model.now) }
+fn unfolded(alloc: Global, valid: &Valid, survey: &Survey) -> Result<Flat, AllocError>
+    requires known { IsKnown valid.now }
+    requires survey { IsSurvey valid.now survey.now }
+    requires within { flat_refusal valid.now ≡ None }
+    ensures { IfOk result (IsFlatOf valid.now) }
 {
-    let items = items_of(alloc, model, survey)?;
-    let flat = flat_of(alloc, model, items)?;
+    let items = items_of(alloc, valid, survey)?;
+    let flat = flat_of(alloc, valid, items)?;
     Ok(flat)
 }
 
 /// The survey of a model and its counts.
-fn surveyed(alloc: Global, model: &Model) -> Result<(Survey, Counts), AllocError>
-    requires { IsKnown model.now }
-    ensures { IfOk result (λ s. IsSurvey model.now s.0 × CountsAre model.now s.1) }
+fn surveyed(alloc: Global, valid: &Valid) -> Result<(Survey, Counts), AllocError>
+    requires { IsKnown valid.now }
+    ensures { IfOk result (λ s. IsSurvey valid.now s.0 × CountsAre valid.now s.1) }
 {
-    let survey = survey_of(alloc, model)?;
-    let counts = counts_of(model, &survey);
+    let survey = survey_of(alloc, valid)?;
+    let counts = counts_of(valid, &survey);
     Ok((survey, counts))
 }
 
@@ -119,14 +117,14 @@ pub fn flatten(alloc: Global, valid: &Valid) -> Result<Flat, ModelFault>
     ensures refused { IfErr result (TellsFirst (option_to_list (flat_refusal valid.now))) }
 {
     let model = valid.model();
-    let (survey, counts) = match surveyed(alloc, model) {
+    let (survey, counts) = match surveyed(alloc, valid) {
         Ok(found) => found,
         Err(_) => return Err(ModelFault::OutOfMemory),
     };
     if let Some(refusal) = refusal_of(&model.good, &counts) {
         return Err(ModelFault::Refused(refusal));
     }
-    match unfolded(alloc, model, &survey) {
+    match unfolded(alloc, valid, &survey) {
         Ok(flat) => Ok(flat),
         Err(_) => Err(ModelFault::OutOfMemory),
     }

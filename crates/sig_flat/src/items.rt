@@ -10,7 +10,7 @@ use crate::copies::{faults_of_all, links_of_all, nodes_of_all, tests_of_all};
 use crate::flat::{Fault, FlatLink, FlatTest, Node};
 use crate::placing::placing_of;
 use crate::survey::Survey;
-use sig_types::{List, Model};
+use sig_types::{List, Valid};
 use std::alloc::{AllocError, Global};
 
 /// What a flat model has.
@@ -23,13 +23,13 @@ pub struct Items {
 }
 
 /// The items of a model that is within its limits.
-pub fn items_of(alloc: Global, model: &Model, survey: &Survey) -> Result<Items, AllocError>
-    requires known { IsKnown model.now }
-    requires survey { IsSurvey model.now survey.now }
-    requires within { flat_refusal model.now ≡ None }
-    ensures { IfOk result (AreItemsOf model.now) }
+pub fn items_of(alloc: Global, valid: &Valid, survey: &Survey) -> Result<Items, AllocError>
+    requires known { IsKnown valid.now }
+    requires survey { IsSurvey valid.now survey.now }
+    requires within { flat_refusal valid.now ≡ None }
+    ensures { IfOk result (AreItemsOf valid.now) }
 {
-    let placing = placing_of(alloc, model, survey)?;
+    let placing = placing_of(alloc, valid, survey)?;
     let placed = placing.placed.as_slice();
     let patterns = survey.patterns.as_slice();
     let nodes = nodes_of_all(alloc, patterns, placed)?;

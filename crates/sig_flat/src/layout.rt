@@ -16,7 +16,7 @@ use crate::links::{LinkPattern, links_of};
 use crate::numbers::use_names;
 use crate::pattern::Pattern;
 use crate::places::Places;
-use sig_types::{Block, Link, List, Name, Used};
+use sig_types::{Block, List, Used, Valid};
 use std::alloc::{AllocError, Global};
 
 /// For each block the instances inside an instance of it.
@@ -61,29 +61,26 @@ fn use_places(alloc: Global, uses: &[Used]) -> Result<Places, AllocError>
 /// For each block its links, by places.
 pub fn links_of_blocks(
     alloc: Global,
-    modes: &Places,
-    all: &List<Name>,
+    valid: &Valid,
     blocks: &[Block],
     inners: &[List<Inner>],
     places: &[Places],
 ) -> Result<Vec<List<LinkPattern>>, AllocError>
-    requires all { all.now ≡ modes.now }
-    requires few { length modes.now ≤ 32 }
+    requires few { length valid.now.modes ≤ 32 }
     requires long { length inners.now ≡ length blocks.now }
     requires places { length places.now ≡ length blocks.now }
     requires names { (k : ℕ) (link : Link) → k < length blocks.now → Contains (block_at blocks.now k).links link → LinkNamesUses (use_names (block_at blocks.now k)) link }
     requires uses { (k : ℕ) → k < length blocks.now → length (slice_index_or inners.now k []) ≡ length (block_at blocks.now k).uses }
     requires blocks { (k : ℕ) (inner : Inner) → Contains (slice_index_or inners.now k []) inner → inner.block < length blocks.now }
     ensures long { IfOk result (λ links. length links.items ≡ length blocks.now) }
-    ensures links { IfOk result (λ links. (k : ℕ) → k < length blocks.now → slice_index_or links.items k [] ≡ map (link_pattern modes.now (slice_index_or places.now k []) (use_names (block_at blocks.now k)) (slice_index_or inners.now k []) places.now) (block_at blocks.now k).links) }
+    ensures links { IfOk result (λ links. (k : ℕ) → k < length blocks.now → slice_index_or links.items k [] ≡ map (link_pattern valid.now.modes (slice_index_or places.now k []) (use_names (block_at blocks.now k)) (slice_index_or inners.now k []) places.now) (block_at blocks.now k).links) }
 {
     let mut links = Vec::with_capacity(alloc, blocks.len())?;
     for k in 0..blocks.len() {
         let uses = use_places(alloc, blocks[k].uses.as_slice())?;
         let joined = links_of(
             alloc,
-            modes,
-            all,
+            valid,
             &places[k],
             &uses,
             inners[k].as_slice(),

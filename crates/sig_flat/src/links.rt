@@ -12,7 +12,7 @@ ghost use Rattle.sig_flat.specs.Layouts.{port_place, end_place, link_pattern, Na
 use crate::inner::Inner;
 use crate::places::Places;
 use crate::sets::modes_of;
-use sig_types::{End, Link, List, Modes, Name};
+use sig_types::{End, Link, List, Modes, Name, Valid};
 use std::alloc::{AllocError, Global};
 
 #[derive(Clone, Copy, Debug)]
@@ -46,42 +46,39 @@ fn place_of_end(own: &Places, uses: &Places, inners: &[Inner], places: &[Places]
 }
 
 /// The modes that the link is alive in: those that it names, or all where it names none.
-fn modes_alive(modes: &Places, all: &List<Name>, named: &List<Name>) -> Modes
-    requires all { all.now ≡ modes.now }
-    requires few { length modes.now ≤ 32 }
-    ensures { result.0 ≡ word_of modes.now (alive_modes modes.now named.now) }
+fn modes_alive(valid: &Valid, named: &List<Name>) -> Modes
+    requires { length valid.now.modes ≤ 32 }
+    ensures { result.0 ≡ word_of valid.now.modes (alive_modes valid.now.modes named.now) }
 {
     if named.len() == 0 {
-        modes_of(modes, all.as_slice())
+        modes_of(valid, valid.model().modes.as_slice())
     } else {
-        modes_of(modes, named.as_slice())
+        modes_of(valid, named.as_slice())
     }
 }
 
 /// The links of a block, with the places of its nodes and of its uses by name.
 pub fn links_of(
     alloc: Global,
-    modes: &Places,
-    all: &List<Name>,
+    valid: &Valid,
     own: &Places,
     uses: &Places,
     inners: &[Inner],
     places: &[Places],
     links: &[Link],
 ) -> Result<List<LinkPattern>, AllocError>
-    requires all { all.now ≡ modes.now }
-    requires few { length modes.now ≤ 32 }
+    requires few { length valid.now.modes ≤ 32 }
     requires names { (link : Link) → Contains links.now link → LinkNamesUses uses.now link }
     requires long { length inners.now ≡ length uses.now }
     requires blocks { (inner : Inner) → Contains inners.now inner → inner.block < length places.now }
-    ensures { IfOk result (λ patterns. patterns ≡ map (link_pattern modes.now own.now uses.now inners.now places.now) links.now) }
+    ensures { IfOk result (λ patterns. patterns ≡ map (link_pattern valid.now.modes own.now uses.now inners.now places.now) links.now) }
 {
     let mut patterns = List::new(alloc);
     for link in links {
         patterns.push(LinkPattern {
             from: place_of_end(own, uses, inners, places, &link.from),
             to: place_of_end(own, uses, inners, places, &link.to),
-            modes: modes_alive(modes, all, &link.modes),
+            modes: modes_alive(valid, &link.modes),
         })?;
     }
     Ok(patterns)

@@ -1,22 +1,13 @@
 //! Names become numbers once: the block of each use, and the names that a block's link ends may have.
 ghost use Rattle.std.specs.Prelude.{◌≡◌, ◌≤◌, map, length, IfOk};
+ghost use Rattle.sig_types.specs.Breaches.{block_names};
 ghost use Rattle.sig_flat.specs.Layouts.{number_of, numbers_of_block, pattern_names};
 
+use crate::lookups::block_place;
 use crate::pattern::Pattern;
 use crate::places::Places;
-use sig_types::{Block, List, Name, Used};
+use sig_types::{Block, List, Name, Used, Valid};
 use std::alloc::{AllocError, Global};
-
-/// The names of the blocks.
-pub fn names_of_blocks(alloc: Global, blocks: &[Block]) -> Result<List<Name>, AllocError>
-    ensures { IfOk result (λ names. names ≡ map (λ block. block.name) blocks.now) }
-{
-    let mut names = List::new(alloc);
-    for block in blocks {
-        names.push(block.name)?;
-    }
-    Ok(names)
-}
 
 /// The names of the uses of a block.
 pub fn use_names(alloc: Global, uses: &[Used]) -> Result<List<Name>, AllocError>
@@ -30,13 +21,13 @@ pub fn use_names(alloc: Global, uses: &[Used]) -> Result<List<Name>, AllocError>
 }
 
 /// The number of the block that each use has.
-fn numbers_of_uses(alloc: Global, names: &Places, uses: &[Used]) -> Result<List<u32>, AllocError>
-    requires { length names.now ≤ 1024 }
-    ensures { IfOk result (λ numbers. numbers ≡ map (number_of names.now) uses.now) }
+fn numbers_of_uses(alloc: Global, valid: &Valid, uses: &[Used]) -> Result<List<u32>, AllocError>
+    requires { length valid.now.blocks ≤ 1024 }
+    ensures { IfOk result (λ numbers. numbers ≡ map (number_of (block_names valid.now)) uses.now) }
 {
     let mut numbers = List::new(alloc);
     for used in uses {
-        numbers.push(names.place_of(&used.block) as u32)?;
+        numbers.push(block_place(valid, &used.block) as u32)?;
     }
     Ok(numbers)
 }
@@ -44,15 +35,15 @@ fn numbers_of_uses(alloc: Global, names: &Places, uses: &[Used]) -> Result<List<
 /// For each block the numbers of the blocks that it uses.
 pub fn numbers_of_blocks(
     alloc: Global,
-    names: &Places,
+    valid: &Valid,
     blocks: &[Block],
 ) -> Result<Vec<List<u32>>, AllocError>
-    requires { length names.now ≤ 1024 }
-    ensures { IfOk result (λ numbers. numbers.items ≡ map (numbers_of_block names.now) blocks.now) }
+    requires { length valid.now.blocks ≤ 1024 }
+    ensures { IfOk result (λ numbers. numbers.items ≡ map (numbers_of_block (block_names valid.now)) blocks.now) }
 {
     let mut numbers = Vec::with_capacity(alloc, blocks.len())?;
     for block in blocks {
-        numbers.push(numbers_of_uses(alloc, names, block.uses.as_slice())?)?;
+        numbers.push(numbers_of_uses(alloc, valid, block.uses.as_slice())?)?;
     }
     Ok(numbers)
 }

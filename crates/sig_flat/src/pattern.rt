@@ -5,9 +5,9 @@ ghost use Rattle.std.specs.Prelude.{◌≡◌, ◌+◌, ◌≤◌, ◌++◌, map
 ghost use Rattle.sig_flat.specs.Patterns.{plain_pattern, part_pattern, point_pattern, node_patterns, functional_patterns, general_patterns, fault_patterns, first_point, mode_number, test_pattern, test_patterns, pattern_of};
 
 use crate::flat::NodeKind;
-use crate::places::Places;
+use crate::lookups::mode_place;
 use crate::sets::signals_of;
-use sig_types::{Block, Cost, List, Name, Part, Point, Signals, Test, Weight};
+use sig_types::{Block, Cost, List, Name, Part, Point, Signals, Test, Valid, Weight};
 use std::alloc::{AllocError, Global};
 
 #[derive(Clone, Copy, Debug)]
@@ -62,19 +62,15 @@ fn add_plain(
     Ok(())
 }
 
-fn add_parts(
-    nodes: &mut List<NodePattern>,
-    signals: &Places,
-    parts: &[Part],
-) -> Result<(), AllocError>
-    requires { length signals.now ≤ 64 }
-    ensures { OnOk result (nodes.new ≡ nodes.old ++ map (part_pattern signals.now) parts.now) }
+fn add_parts(nodes: &mut List<NodePattern>, valid: &Valid, parts: &[Part]) -> Result<(), AllocError>
+    requires { length valid.now.signals ≤ 64 }
+    ensures { OnOk result (nodes.new ≡ nodes.old ++ map (part_pattern valid.now.signals) parts.now) }
 {
     for part in parts {
         nodes.push(NodePattern {
             name: part.name,
             kind: NodeKind::Part,
-            stops: signals_of(signals, part.stops.as_slice()),
+            stops: signals_of(valid, part.stops.as_slice()),
         })?;
     }
     Ok(())
@@ -94,33 +90,33 @@ fn add_points(nodes: &mut List<NodePattern>, points: &[Point]) -> Result<(), All
 }
 
 #[tactic(auto, unfolding(crate::specs::Patterns::node_patterns))]
-fn nodes_of(alloc: Global, signals: &Places, block: &Block) -> Result<List<NodePattern>, AllocError>
-    requires { length signals.now ≤ 64 }
-    ensures { IfOk result (λ nodes. nodes ≡ node_patterns signals.now block.now) }
+fn nodes_of(alloc: Global, valid: &Valid, block: &Block) -> Result<List<NodePattern>, AllocError>
+    requires { length valid.now.signals ≤ 64 }
+    ensures { IfOk result (λ nodes. nodes ≡ node_patterns valid.now.signals block.now) }
 {
     let mut nodes = List::new(alloc);
     add_plain(&mut nodes, block.ports.as_slice(), NodeKind::Port)?;
     add_plain(&mut nodes, block.switches.as_slice(), NodeKind::Switch)?;
-    add_parts(&mut nodes, signals, block.parts.as_slice())?;
+    add_parts(&mut nodes, valid, block.parts.as_slice())?;
     add_points(&mut nodes, block.points.as_slice())?;
     Ok(nodes)
 }
 
 fn add_functional(
     faults: &mut List<FaultPattern>,
-    signals: &Places,
+    valid: &Valid,
     at: usize,
     part: &Part,
 ) -> Result<(), AllocError>
-    requires { length signals.now ≤ 64 }
-    ensures { OnOk result (faults.new ≡ faults.old ++ functional_patterns signals.now at part.now.name part.now.functional) }
+    requires { length valid.now.signals ≤ 64 }
+    ensures { OnOk result (faults.new ≡ faults.old ++ functional_patterns valid.now.signals at part.now.name part.now.functional) }
 {
     if let Some(fault) = &part.functional {
         faults.push(FaultPattern {
             at,
             part: part.name,
             general: false,
-            signals: signals_of(signals, fault.signals.as_slice()),
+            signals: signals_of(valid, fault.signals.as_slice()),
             weight: fault.weight,
         })?;
     }
@@ -146,43 +142,42 @@ fn add_general(faults: &mut List<FaultPattern>, at: usize, part: &Part) -> Resul
 #[tactic(auto, unfolding(crate::specs::Patterns::fault_patterns))]
 fn faults_of(
     alloc: Global,
-    signals: &Places,
+    valid: &Valid,
     block: &Block,
     nodes: usize,
 ) -> Result<List<FaultPattern>, AllocError>
-    requires signals { length signals.now ≤ 64 }
+    requires signals { length valid.now.signals ≤ 64 }
     requires nodes { nodes ≡ first_point block.now + length block.now.points }
-    ensures { IfOk result (λ faults. faults ≡ fault_patterns signals.now block.now) }
+    ensures { IfOk result (λ faults. faults ≡ fault_patterns valid.now.signals block.now) }
 {
     let first = nodes - block.points.len() - block.parts.len();
     let mut faults = List::new(alloc);
     for (k, part) in block.parts.as_slice().iter().enumerate() {
-        add_functional(&mut faults, signals, first + k, part)?;
+        add_functional(&mut faults, valid, first + k, part)?;
         add_general(&mut faults, first + k, part)?;
     }
     Ok(faults)
 }
 
-fn mode_of(modes: &Places, mode: &Option<Name>) -> u32
-    requires { length modes.now ≤ 32 }
-    ensures { result ≡ mode_number modes.now mode.now }
+fn mode_of(valid: &Valid, mode: &Option<Name>) -> u32
+    requires { length valid.now.modes ≤ 32 }
+    ensures { result ≡ mode_number valid.now.modes mode.now }
 {
     match mode {
-        Some(name) => modes.place_of(name) as u32,
+        Some(name) => mode_place(valid, name) as u32,
         None => 0,
     }
 }
 
 fn add_tests(
     tests: &mut List<TestPattern>,
-    signals: &Places,
-    modes: &Places,
+    valid: &Valid,
     at: usize,
     point: &Point,
 ) -> Result<(), AllocError>
-    requires signals { length signals.now ≤ 64 }
-    requires modes { length modes.now ≤ 32 }
-    ensures { OnOk result (tests.new ≡ tests.old ++ map (test_pattern signals.now modes.now at point.now.name) point.now.tests) }
+    requires signals { length valid.now.signals ≤ 64 }
+    requires modes { length valid.now.modes ≤ 32 }
+    ensures { OnOk result (tests.new ≡ tests.old ++ map (test_pattern valid.now.signals valid.now.modes at point.now.name) point.now.tests) }
 {
     for test in point.tests.as_slice() {
         tests.push(TestPattern {
@@ -190,8 +185,8 @@ fn add_tests(
             point: point.name,
             name: test.name,
             cost: test.cost,
-            signals: signals_of(signals, test.signals.as_slice()),
-            mode: mode_of(modes, &test.mode),
+            signals: signals_of(valid, test.signals.as_slice()),
+            mode: mode_of(valid, &test.mode),
         })?;
     }
     Ok(())
@@ -200,38 +195,32 @@ fn add_tests(
 #[tactic(auto, unfolding(crate::specs::Patterns::test_patterns))]
 fn tests_of(
     alloc: Global,
-    signals: &Places,
-    modes: &Places,
+    valid: &Valid,
     block: &Block,
     nodes: usize,
 ) -> Result<List<TestPattern>, AllocError>
-    requires signals { length signals.now ≤ 64 }
-    requires modes { length modes.now ≤ 32 }
+    requires signals { length valid.now.signals ≤ 64 }
+    requires modes { length valid.now.modes ≤ 32 }
     requires nodes { nodes ≡ first_point block.now + length block.now.points }
-    ensures { IfOk result (λ tests. tests ≡ test_patterns signals.now modes.now block.now) }
+    ensures { IfOk result (λ tests. tests ≡ test_patterns valid.now.signals valid.now.modes block.now) }
 {
     let first = nodes - block.points.len();
     let mut tests = List::new(alloc);
     for (k, point) in block.points.as_slice().iter().enumerate() {
-        add_tests(&mut tests, signals, modes, first + k, point)?;
+        add_tests(&mut tests, valid, first + k, point)?;
     }
     Ok(tests)
 }
 
-/// The pattern of a block of a model with these signals and modes.
-pub fn pattern_of_block(
-    alloc: Global,
-    signals: &Places,
-    modes: &Places,
-    block: &Block,
-) -> Result<Pattern, AllocError>
-    requires signals { length signals.now ≤ 64 }
-    requires modes { length modes.now ≤ 32 }
-    ensures { IfOk result (λ pattern. pattern ≡ pattern_of signals.now modes.now block.now) }
+/// The pattern of a block of the model.
+pub fn pattern_of_block(alloc: Global, valid: &Valid, block: &Block) -> Result<Pattern, AllocError>
+    requires signals { length valid.now.signals ≤ 64 }
+    requires modes { length valid.now.modes ≤ 32 }
+    ensures { IfOk result (λ pattern. pattern ≡ pattern_of valid.now.signals valid.now.modes block.now) }
 {
-    let nodes = nodes_of(alloc, signals, block)?;
-    let faults = faults_of(alloc, signals, block, nodes.len())?;
-    let tests = tests_of(alloc, signals, modes, block, nodes.len())?;
+    let nodes = nodes_of(alloc, valid, block)?;
+    let faults = faults_of(alloc, valid, block, nodes.len())?;
+    let tests = tests_of(alloc, valid, block, nodes.len())?;
     Ok(Pattern {
         nodes,
         faults,
@@ -242,17 +231,16 @@ pub fn pattern_of_block(
 /// The patterns of the blocks.
 pub fn patterns_of(
     alloc: Global,
-    signals: &Places,
-    modes: &Places,
+    valid: &Valid,
     blocks: &[Block],
 ) -> Result<Vec<Pattern>, AllocError>
-    requires signals { length signals.now ≤ 64 }
-    requires modes { length modes.now ≤ 32 }
-    ensures { IfOk result (λ patterns. patterns.items ≡ map (pattern_of signals.now modes.now) blocks.now) }
+    requires signals { length valid.now.signals ≤ 64 }
+    requires modes { length valid.now.modes ≤ 32 }
+    ensures { IfOk result (λ patterns. patterns.items ≡ map (pattern_of valid.now.signals valid.now.modes) blocks.now) }
 {
     let mut patterns = Vec::with_capacity(alloc, blocks.len())?;
     for block in blocks {
-        patterns.push(pattern_of_block(alloc, signals, modes, block)?)?;
+        patterns.push(pattern_of_block(alloc, valid, block)?)?;
     }
     Ok(patterns)
 }

@@ -13,7 +13,7 @@ use crate::links::LinkPattern;
 use crate::numbers::places_of_blocks;
 use crate::survey::Survey;
 use crate::walk::{Placed, place_instances};
-use sig_types::{List, Model};
+use sig_types::{List, Valid};
 use std::alloc::{AllocError, Global};
 
 /// The instances of a model, and by block its links.
@@ -26,13 +26,14 @@ pub struct Placing {
 /// For each block the instances inside an instance of it.
 fn inners_of_model(
     alloc: Global,
-    model: &Model,
+    valid: &Valid,
     survey: &Survey,
 ) -> Result<Vec<List<Inner>>, AllocError>
-    requires known { IsKnown model.now }
-    requires survey { IsSurvey model.now survey.now }
-    ensures { IfOk result (λ inners. AreInners model.now (sizes_in survey.now.counts.items) inners.items) }
+    requires known { IsKnown valid.now }
+    requires survey { IsSurvey valid.now survey.now }
+    ensures { IfOk result (λ inners. AreInners valid.now (sizes_in survey.now.counts.items) inners.items) }
 {
+    let model = valid.model();
     let blocks = model.blocks.as_slice();
     let numbers = survey.numbers.as_slice();
     let patterns = survey.patterns.as_slice();
@@ -44,35 +45,36 @@ fn inners_of_model(
 /// For each block its links.
 fn links_of_model(
     alloc: Global,
-    model: &Model,
+    valid: &Valid,
     survey: &Survey,
     inners: &[List<Inner>],
 ) -> Result<Vec<List<LinkPattern>>, AllocError>
-    requires known { IsKnown model.now }
-    requires survey { IsSurvey model.now survey.now }
-    requires inners { AreInners model.now (sizes_in survey.now.counts.items) inners.now }
-    ensures { IfOk result (λ links. AreLinks model.now inners.now links.items) }
+    requires known { IsKnown valid.now }
+    requires survey { IsSurvey valid.now survey.now }
+    requires inners { AreInners valid.now (sizes_in survey.now.counts.items) inners.now }
+    ensures { IfOk result (λ links. AreLinks valid.now inners.now links.items) }
 {
+    let model = valid.model();
     let blocks = model.blocks.as_slice();
     let patterns = survey.patterns.as_slice();
     let places = places_of_blocks(alloc, patterns)?;
     let names = places.as_slice();
-    let links = links_of_blocks(alloc, &survey.modes, &model.modes, blocks, inners, names)?;
+    let links = links_of_blocks(alloc, valid, blocks, inners, names)?;
     Ok(links)
 }
 
 /// The instances, by one walk from the top block down.
 fn placed_of_model(
     alloc: Global,
-    model: &Model,
+    valid: &Valid,
     survey: &Survey,
     inners: &[List<Inner>],
 ) -> Result<List<Placed>, AllocError>
-    requires known { IsKnown model.now }
-    requires survey { IsSurvey model.now survey.now }
-    requires inners { AreInners model.now (sizes_in survey.now.counts.items) inners.now }
-    requires within { flat_refusal model.now ≡ None }
-    ensures placed { IfOk result (λ placed. placed ≡ placed_at inners.now [] (top_of model.now) 0) }
+    requires known { IsKnown valid.now }
+    requires survey { IsSurvey valid.now survey.now }
+    requires inners { AreInners valid.now (sizes_in survey.now.counts.items) inners.now }
+    requires within { flat_refusal valid.now ≡ None }
+    ensures placed { IfOk result (λ placed. placed ≡ placed_at inners.now [] (top_of valid.now) 0) }
     ensures shown { IfOk result PrefixesShown }
 {
     let mut placed = List::new(alloc);
@@ -81,16 +83,16 @@ fn placed_of_model(
 }
 
 /// What the flat items are copied from, where the model is within its limits.
-pub fn placing_of(alloc: Global, model: &Model, survey: &Survey) -> Result<Placing, AllocError>
-    requires known { IsKnown model.now }
-    requires survey { IsSurvey model.now survey.now }
-    requires within { flat_refusal model.now ≡ None }
-    ensures placing { IfOk result (λ p. IsPlacing model.now p.placed p.links.items) }
+pub fn placing_of(alloc: Global, valid: &Valid, survey: &Survey) -> Result<Placing, AllocError>
+    requires known { IsKnown valid.now }
+    requires survey { IsSurvey valid.now survey.now }
+    requires within { flat_refusal valid.now ≡ None }
+    ensures placing { IfOk result (λ p. IsPlacing valid.now p.placed p.links.items) }
     ensures shown { IfOk result (λ p. PrefixesShown p.placed) }
 {
-    let inners = inners_of_model(alloc, model, survey)?;
+    let inners = inners_of_model(alloc, valid, survey)?;
     let inside = inners.as_slice();
-    let links = links_of_model(alloc, model, survey, inside)?;
-    let placed = placed_of_model(alloc, model, survey, inside)?;
+    let links = links_of_model(alloc, valid, survey, inside)?;
+    let placed = placed_of_model(alloc, valid, survey, inside)?;
     Ok(Placing { placed, links })
 }

@@ -2,3 +2,4 @@ pub mod FillingLaws
 pub mod TextLaws
 pub mod DetectionLaws
 pub mod MatrixLaws
+pub mod OneMatrix

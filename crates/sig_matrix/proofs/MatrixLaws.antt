@@ -1,15 +1,15 @@
 -- Rows, faults and tests make the matrix of a flat model, and that matrix is valid.
 use Rattle.std.proofs.Common.{◌≡◌, ℕ, zero, suc, ◌+◌, ◌<◌, ◌≤◌, List, [], ◌∷◌, map, length, get_or, refl, sym, ap, ◌∙◌, arith, inl, inr, subst}
-use Rattle.std.specs.Prelude.{Bool, true, filter, nat_eq, cond, Option, ◌↔◌}
+use Rattle.std.specs.Prelude.{All, Bool, true, filter, nat_eq, cond, Option, ◌↔◌}
 use Rattle.std.specs.List.{AllZip, Contains}
 use Rattle.std.proofs.lemmas.Bool.{cases_Bool, eqb-true}
-use Rattle.std.proofs.lemmas.List.Elements.{Contains-get_or}
+use Rattle.std.proofs.lemmas.List.Elements.{All-get_or, Contains-get_or}
 use Rattle.sig_flat.specs.declared.flat.Flat.{Flat}
 use Rattle.sig_flat.specs.declared.flat.FlatTest.{FlatTest}
 use Rattle.sig_flat.specs.Valid.{IsValid as IsValidFlat}
 use Rattle.sig_matrix.specs.declared.matrix.Matrix.{Matrix}
 use Rattle.sig_matrix.specs.declared.matrix.FaultRow.{FaultRow}
-use Rattle.sig_matrix.specs.Detection.{Detects, IsMatrixOf, IsRowOf, IsLabelOf, is_taken, taken, test_at, fault_at, no_row, no_label, no_fault, no_test, in_row, detects, state_count}
+use Rattle.sig_matrix.specs.Detection.{AreFourWords, Detects, IsMatrixOf, IsRowOf, IsLabelOf, is_taken, taken, test_at, fault_at, no_row, no_label, no_fault, no_test, in_row, detects, state_count}
 use Rattle.sig_matrix.specs.Filling.{AreRows, is_set}
 use Rattle.sig_matrix.specs.Valid.{IsValid}
 use Rattle.sig_matrix.proofs.DetectionLaws.{AllZip-long, AllZip-at}
@@ -50,8 +50,8 @@ rows-read (r ∷ faults) zero = refl
 rows-read (r ∷ faults) (suc f) = rows-read faults f
 
 pub matrix-from_parts : (flat : Flat) (mode : Option ℕ) (matrix : Matrix) (tests : List FlatTest) (rows : List (List ℕ)) → tests ≡ taken mode flat.tests → matrix.good ≡ flat.good → AllZip IsRowOf flat.faults matrix.faults
-    → map (λ (r : FaultRow). r.row) matrix.faults ≡ rows → AllZip IsLabelOf tests matrix.tests → AreRows flat tests (λ t. true) rows → IsMatrixOf flat mode matrix
-matrix-from_parts flat mode matrix tests rows is good faults same labels h = record {
+    → map (λ (r : FaultRow). r.row) matrix.faults ≡ rows → AllZip IsLabelOf tests matrix.tests → AreRows flat tests (λ t. true) rows → All (λ (r : FaultRow). AreFourWords r.row) matrix.faults → IsMatrixOf flat mode matrix
+matrix-from_parts flat mode matrix tests rows is good faults same labels h four = record {
   good = good;
   faults = faults;
   tests = subst (λ l. AllZip IsLabelOf l matrix.tests) is labels;
@@ -60,6 +60,7 @@ matrix-from_parts flat mode matrix tests rows is good faults same labels h = rec
       subst (λ b. (b ≡ true) ↔ Detects flat (fault_at flat f) (test_at (taken mode flat.tests) t)) (read f t)
       (subst (λ l. (is_set rows f t ≡ true) ↔ Detects flat (fault_at flat f) (test_at l t)) is (h.filled f t lf (omega arith) refl));
   nothing_else = λ f t lf le lt. let many = long in sym (read f t) ∙ h.past f t lf (omega arith) lt;
+  words = λ f lf. let many = AllZip-long IsRowOf flat.faults matrix.faults faults in All-get_or (λ (r : FaultRow). AreFourWords r.row) matrix.faults f no_row (omega arith) four;
 }
   where
     read : (f t : ℕ) → is_set rows f t ≡ detects matrix f t

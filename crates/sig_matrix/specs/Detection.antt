@@ -41,6 +41,11 @@ no_row = record { weight = 0; label = []; row = [] }
 abbrev pub in_row : List ℕ → ℕ → Bool
 in_row row test = has_bit (slice_index row (test / 64)) (test % 64)
 
+-- four words of 64 bits
+pub record AreFourWords (row : List ℕ) : Type 0 where
+  pub four : length row ≡ 4
+  pub words : (k : ℕ) → k < 4 → slice_index row k < 2 ^ 64
+
 -- whether the matrix has the fault detected by the test
 abbrev pub detects : Matrix → ℕ → ℕ → Bool
 detects matrix fault test = in_row (slice_index_or matrix.faults fault no_row).row test
@@ -76,6 +81,7 @@ pub record IsMatrixOf (flat : Flat) (mode : Option ℕ) (matrix : Matrix) : Type
   pub tests : AllZip IsLabelOf (taken mode flat.tests) matrix.tests
   pub detected : (f t : ℕ) → f < length flat.faults → t < length matrix.tests → (detects matrix f t ≡ true) ↔ Detects flat (fault_at flat f) (test_at (taken mode flat.tests) t)
   pub nothing_else : (f t : ℕ) → f < length flat.faults → length matrix.tests ≤ t → t < 256 → detects matrix f t ≡ false
+  pub words : (f : ℕ) → f < length flat.faults → AreFourWords (slice_index_or matrix.faults f no_row).row
 
 -- how many states come before the faults: one, without a fault, where it has a weight
 abbrev pub before_faults : Matrix → ℕ
@@ -104,11 +110,6 @@ state_name matrix s = cond (nat_lt s (before_faults matrix)) (codes "good") (sli
 -- the row of a state, as words of 64 tests: zeros without a fault
 abbrev pub state_row : Matrix → ℕ → List ℕ
 state_row matrix s = cond (nat_lt s (before_faults matrix)) (replicate {A = ℕ} 4 0) (slice_index_or matrix.faults (s - before_faults matrix) no_row).row
-
--- four words of 64 bits
-pub record AreFourWords (row : List ℕ) : Type 0 where
-  pub four : length row ≡ 4
-  pub words : (k : ℕ) → k < 4 → slice_index row k < 2 ^ 64
 
 -- what stands past the last column
 abbrev pub no_label : TestLabel

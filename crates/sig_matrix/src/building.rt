@@ -12,7 +12,7 @@ ghost use Rattle.sig_flat.specs.Valid.{IsValid as IsValidFlat};
 ghost use Rattle.sig_flat.specs.declared.flat.FlatTest.{FlatTest};
 ghost use Rattle.sig_reach.specs.Marks.{is_marked};
 ghost use Rattle.sig_matrix.specs.declared.matrix.FaultRow.{FaultRow};
-ghost use Rattle.sig_matrix.specs.Detection.{IsMatrixOf, IsRowOf, IsLabelOf, is_taken, taken, test_at};
+ghost use Rattle.sig_matrix.specs.Detection.{AreFourWords, IsMatrixOf, IsRowOf, IsLabelOf, is_taken, taken, test_at};
 ghost use Rattle.sig_matrix.specs.Filling.{IsTestAdded, IsWanted, AreRows, is_before};
 ghost use Rattle.sig_matrix.specs.Valid.{IsValid};
 
@@ -170,11 +170,20 @@ fn rows_of(alloc: Global, flat: &Flat, numbers: &[u32]) -> Result<Vec<[u64; 4]>,
     Ok(rows)
 }
 
+/// The row itself, which is four words as each row of a program is.
+fn four_words(row: [u64; 4]) -> [u64; 4]
+    ensures same { result ≡ row }
+    ensures words { AreFourWords row }
+{
+    row
+}
+
 /// The faults with these rows.
 fn faults_with(alloc: Global, flat: &Flat, rows: &[[u64; 4]]) -> Result<List<FaultRow>, AllocError>
     requires { length rows.now ≡ length flat.now.faults }
     ensures faults { IfOk result (λ faults. AllZip IsRowOf flat.now.faults faults) }
     ensures rows { IfOk result (λ faults. map (λ (f : FaultRow). f.row) faults ≡ rows.now) }
+    ensures words { IfOk result (All (λ (f : FaultRow). AreFourWords f.row)) }
 {
     let faults = flat.faults.as_slice();
     let mut list = List::new(alloc);
@@ -184,7 +193,7 @@ fn faults_with(alloc: Global, flat: &Flat, rows: &[[u64; 4]]) -> Result<List<Fau
         list.push(FaultRow {
             weight: fault.weight,
             label,
-            row: rows[at],
+            row: four_words(rows[at]),
         })?;
     }
     Ok(list)

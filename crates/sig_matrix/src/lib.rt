@@ -7,11 +7,13 @@
 
 mod building;
 mod detection;
+mod laws;
 mod matrix;
 mod row;
 mod text;
 
 pub use building::matrix_of;
+pub use laws::one_matrix;
 pub use matrix::{FaultRow, Matrix};
 pub use row::has_test;
 pub use text::matrix_text;

@@ -5,6 +5,7 @@
 ghost use Rattle.std.specs.Prelude.{◌≡◌, [], IfOk, IfErr};
 ghost use Rattle.sig_types.specs.Breaches.{breaches, count_breaches, indexed_breaches, known_modes, or_normal, too_many};
 ghost use Rattle.sig_types.specs.Refused.{IsVerdict, TellsFirst};
+ghost use Rattle.sig_types.specs.Symbols.{AreSymbolsOf};
 
 mod block;
 mod index;
@@ -17,6 +18,7 @@ use crate::model::Model;
 use crate::name::Name;
 use crate::refusals::{Code, Counted, Key, ModelFault, Place};
 use crate::spot::Spot;
+use crate::symbols::Symbols;
 use crate::valid::Valid;
 use block::check_blocks;
 use index::{Index, normal};
@@ -56,12 +58,14 @@ fn check_indexed(alloc: Global, index: &Index, model: &Model) -> Result<(), Mode
     refuse_if(index.block_number(&model.top).is_none(), Code::M08, top)
 }
 
-fn check_model(alloc: Global, model: &Model) -> Result<(), ModelFault>
-    ensures { IsVerdict (breaches model.now) result }
+fn check_model(alloc: Global, model: &Model) -> Result<Symbols, ModelFault>
+    ensures verdict { IsVerdict (breaches model.now) result }
+    ensures symbols { IfOk result (AreSymbolsOf model.now) }
 {
     check_counts(model)?;
     let index = Index::of(alloc, model)?;
-    check_indexed(alloc, &index, model)
+    check_indexed(alloc, &index, model)?;
+    Ok(index.into_symbols())
 }
 
 /// The modes that a model is kept with.
@@ -76,9 +80,10 @@ fn kept_modes(alloc: Global, modes: List<Name>) -> Result<List<Name>, AllocError
     Ok(kept)
 }
 
-/// A model in which no breach was found, as a valid one.
-fn keep(alloc: Global, model: Model) -> Result<Valid, AllocError>
-    requires { breaches model ≡ [] }
+/// A model in which no breach was found, as a valid one, with its names by number.
+fn keep(alloc: Global, model: Model, symbols: Symbols) -> Result<Valid, AllocError>
+    requires sound { breaches model ≡ [] }
+    requires symbols { AreSymbolsOf model symbols }
     ensures { IfOk result (λ valid. valid ≡ record model { modes = known_modes model }) }
 {
     let Model {
@@ -88,13 +93,14 @@ fn keep(alloc: Global, model: Model) -> Result<Valid, AllocError>
         modes,
         blocks,
     } = model;
-    Ok(Valid::of(Model {
+    let kept = Model {
         good,
         top,
         signals,
         modes: kept_modes(alloc, modes)?,
         blocks,
-    }))
+    };
+    Ok(Valid::of(kept, symbols))
 }
 
 impl Model {
@@ -105,8 +111,8 @@ impl Model {
         ensures valid { IfOk result (λ valid. (breaches self ≡ []) × (valid ≡ record self { modes = known_modes self })) }
         ensures refused { IfErr result (TellsFirst (breaches self)) }
     {
-        check_model(alloc, &self)?;
-        let valid = keep(alloc, self)?;
+        let symbols = check_model(alloc, &self)?;
+        let valid = keep(alloc, self, symbols)?;
         Ok(valid)
     }
 }

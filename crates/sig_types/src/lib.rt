@@ -13,6 +13,7 @@ mod numbers;
 mod refusals;
 mod sets;
 mod spot;
+mod symbols;
 mod text;
 mod valid;
 

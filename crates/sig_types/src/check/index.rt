@@ -5,12 +5,14 @@ ghost use Rattle.std.specs.Str.{bytes_eq};
 ghost use Rattle.indexmap.specs.IndexSet.{insert_all};
 ghost use Rattle.sig_types.specs.Breaches.{block_names, has, has_port, known_modes, or_normal, repeated_at_top};
 ghost use Rattle.sig_types.specs.Refused.{IsVerdict};
+ghost use Rattle.sig_types.specs.Symbols.{AreSymbolsOf};
 
 use crate::check::names::number_names;
 use crate::model::{Block, Model};
 use crate::name::Name;
 use crate::refusals::{Key, ModelFault};
 use crate::spot::Spot;
+use crate::symbols::Symbols;
 use indexmap::IndexSet;
 use std::alloc::{AllocError, Global};
 
@@ -18,9 +20,7 @@ use std::alloc::{AllocError, Global};
 #[derive(Drop)]
 pub(crate) struct Index<'a> {
     model: &'a Model,
-    signals: IndexSet<Name>,
-    modes: IndexSet<Name>,
-    blocks: IndexSet<Name>,
+    symbols: Symbols,
     /// By block.
     ports: Vec<IndexSet<Name>>,
 }
@@ -30,13 +30,13 @@ impl<'a> std::marker::Model for Index<'a> {
     ghost use Rattle.std.specs.Str.{bytes_eq};
     ghost use Rattle.indexmap.specs.IndexSet.{insert_all};
     ghost use Rattle.sig_types.specs.declared.model.Model.{Model};
-    ghost use Rattle.sig_types.specs.Breaches.{block_names, known_modes};
+    ghost use Rattle.sig_types.specs.Symbols.{AreSymbolsOf};
 
     ghost Value = { Model };
 
     ghost view = { λ i. i.model.now };
 
-    ghost invariant = { λ i. (i.signals.keys ≡ i.model.now.signals) × (i.modes.keys ≡ known_modes i.model.now) × (i.blocks.keys ≡ block_names i.model.now) × (map (λ ports. ports.keys) i.ports.items ≡ map (λ block. insert_all bytes_eq [] block.ports) i.model.now.blocks) };
+    ghost invariant = { λ i. AreSymbolsOf i.model.now i.symbols × (map (λ ports. ports.keys) i.ports.items ≡ map (λ block. insert_all bytes_eq [] block.ports) i.model.now.blocks) };
 }
 
 /// The one mode of a model that declares none.
@@ -93,26 +93,36 @@ impl<'a> Index<'a> {
         let blocks = number_names(alloc, model.blocks.as_slice(), document)?;
         add_normal(&mut modes)?;
         let ports = ports_of(alloc, model.blocks.as_slice())?;
-        Ok(Index {
-            model,
+        let symbols = Symbols {
             signals,
             modes,
             blocks,
+        };
+        Ok(Index {
+            model,
+            symbols,
             ports,
         })
+    }
+
+    /// What of it outlives the check.
+    pub fn into_symbols(self) -> Symbols
+        ensures { AreSymbolsOf self.entry result }
+    {
+        self.symbols
     }
 
     pub fn signals(&self) -> &IndexSet<Name>
         ensures { result.now.keys ≡ self.now.signals }
     {
-        &self.signals
+        &self.symbols.signals
     }
 
     /// The modes, of which there is at least `normal`.
     pub fn modes(&self) -> &IndexSet<Name>
         ensures { result.now.keys ≡ known_modes self.now }
     {
-        &self.modes
+        &self.symbols.modes
     }
 
     /// The number of the block of this name.
@@ -120,14 +130,14 @@ impl<'a> Index<'a> {
         ensures number { result ≡ position (bytes_eq name.now) (block_names self.now) }
         ensures found { is_some result ≡ has (block_names self.now) name.now }
     {
-        self.blocks.get_index_of(name)
+        self.symbols.blocks.get_index_of(name)
     }
 
     /// Whether the block of the name has the port.
     pub fn has_port(&self, block: &Name, port: &Name) -> bool
         ensures { result ≡ has_port self.now.blocks block.now port.now }
     {
-        match self.blocks.get_index_of(block) {
+        match self.symbols.blocks.get_index_of(block) {
             Some(number) => self.ports[number].contains(port),
             None => false,
         }

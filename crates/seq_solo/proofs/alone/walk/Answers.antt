@@ -5,7 +5,8 @@ use Rattle.seq_theory.specs.Problem.{all_classes, is_end}
 use Rattle.seq_inst.specs.Instances.{problem_of}
 use Rattle.seq_core.specs.Settled.{groups_in}
 use Rattle.seq_solo.specs.Found.{BeginsWithAll}
-use Rattle.seq_solo.proofs.FoundLaws.{root-real, begun, nothing-solved, walking-begins, root-entered, walking-sound, solved, may-stop, closed-read, stopped-same}
+use Rattle.seq_solo.proofs.RowLaws.{turned-none}
+use Rattle.seq_solo.proofs.FoundLaws.{root-real, begun, goes-on, nothing-solved, walking-begins, root-entered, walking-sound, solved, may-stop, closed-read, stopped-same}
 use Rattle.seq_solo.proofs.alone.walk.Goals as goal
 
 pub returns-then-is_leaf-clause-ended : goal.returns-then-is_leaf-clause-ended
@@ -27,6 +28,16 @@ turns-init c = record {
   known = c.in_ok-enter.ensures.known;
   walk = begun (problem_of c.args.inst.now) c.args.limit c.root-all.result c.in_ok-graph.graph.rows.items c.enter.new.graph.rows.items c.requires.some c.root-all.ensures.classes c.in_ok-graph.ensures.rows c.in_ok-enter.ensures.known.rows_are c.in_ok-enter.ensures.narrows;
 }
+
+pub turns-preserved : goal.turns-preserved
+turns-preserved c =
+    let p = problem_of c.args.inst.now in
+    let old = c.turns.graph.rows.items in
+    let new = c.turn.new.graph.rows.items in
+    record {
+      known = c.in_ok-missed.ensures.known;
+      walk = goes-on p c.args.limit old new c.turns.invariant.walk (turned-none p c.args.limit old new c.in_ok-missed.field-0 c.in_default.not-Some c.in_ok-missed.ensures.turned);
+    }
 
 pub returns-clause-sound : goal.returns-clause-sound
 returns-clause-sound c = walking-sound (problem_of c.args.inst.now) c.args.limit c.turns.graph.rows.items c.turns.invariant.walk

@@ -15,7 +15,7 @@ use Rattle.sig_flat.proofs.items.items_of.Goals as goal
 pub nodes_of_all-requires-clause-there : goal.nodes_of_all-requires-clause-there
 nodes_of_all-requires-clause-there c = λ p i.
     let there = c.in_ok-placing.ensures.placing.there p (subst (λ (l : List Placed). Contains l p) c.as_slice-placed.ensures i) in
-    let long = ap length (c.as_slice-patterns.ensures.value ∙ c.requires.survey.patterns) ∙ length-map c.args.model.now.blocks (pattern_of c.args.model.now.signals c.args.model.now.modes) in
+    let long = ap length (c.as_slice-patterns.ensures.value ∙ c.requires.survey.patterns) ∙ length-map c.args.valid.now.blocks (pattern_of c.args.valid.now.signals c.args.valid.now.modes) in
     omega arith
 
 pub nodes_of_all-requires-clause-shown : goal.nodes_of_all-requires-clause-shown
@@ -35,7 +35,7 @@ links_of_all-requires-clause-fit c = λ p i.
 pub faults_of_all-requires-clause-there : goal.faults_of_all-requires-clause-there
 faults_of_all-requires-clause-there c = λ p i.
     let there = c.in_ok-placing.ensures.placing.there p (subst (λ (l : List Placed). Contains l p) c.as_slice-placed.ensures i) in
-    let long = ap length (c.as_slice-patterns.ensures.value ∙ c.requires.survey.patterns) ∙ length-map c.args.model.now.blocks (pattern_of c.args.model.now.signals c.args.model.now.modes) in
+    let long = ap length (c.as_slice-patterns.ensures.value ∙ c.requires.survey.patterns) ∙ length-map c.args.valid.now.blocks (pattern_of c.args.valid.now.signals c.args.valid.now.modes) in
     omega arith
 
 pub faults_of_all-requires-clause-fit : goal.faults_of_all-requires-clause-fit
@@ -49,7 +49,7 @@ faults_of_all-requires-clause-shown c = subst PrefixesShown (sym c.as_slice-plac
 pub tests_of_all-requires-clause-there : goal.tests_of_all-requires-clause-there
 tests_of_all-requires-clause-there c = λ p i.
     let there = c.in_ok-placing.ensures.placing.there p (subst (λ (l : List Placed). Contains l p) c.as_slice-placed.ensures i) in
-    let long = ap length (c.as_slice-patterns.ensures.value ∙ c.requires.survey.patterns) ∙ length-map c.args.model.now.blocks (pattern_of c.args.model.now.signals c.args.model.now.modes) in
+    let long = ap length (c.as_slice-patterns.ensures.value ∙ c.requires.survey.patterns) ∙ length-map c.args.valid.now.blocks (pattern_of c.args.valid.now.signals c.args.valid.now.modes) in
     omega arith
 
 pub tests_of_all-requires-clause-fit : goal.tests_of_all-requires-clause-fit
@@ -62,14 +62,14 @@ tests_of_all-requires-clause-shown c = subst PrefixesShown (sym c.as_slice-place
 
 pub returns : goal.returns
 returns c =
-    let patterns : c.as_slice-patterns.result.now ≡ patterns_of_model c.args.model.now = c.as_slice-patterns.ensures.value ∙ c.requires.survey.patterns in
+    let patterns : c.as_slice-patterns.result.now ≡ patterns_of_model c.args.valid.now = c.as_slice-patterns.ensures.value ∙ c.requires.survey.patterns in
     let placed = c.as_slice-placed.ensures in
     let ip = c.in_ok-placing.ensures.placing in
     record {
-      nodes = subst (AllZip (IsNodeOf c.args.model.now) (nodes c.args.model.now)) (sym (c.in_ok-nodes.ensures.nodes ∙ ap (λ (l : List Pattern). flat_map (node_copies l) c.as_slice-placed.result.now) patterns ∙ ap (flat_map (node_copies (patterns_of_model c.args.model.now))) placed)) ip.nodes;
-      links = subst (AllZip (IsLinkOf c.args.model.now) (links c.args.model.now)) (sym (c.in_ok-links.ensures ∙ ap (λ (l : List (List LinkPattern)). flat_map (link_copies l) c.as_slice-placed.result.now) c.as_slice.ensures.value ∙ ap (flat_map (link_copies c.in_ok-placing.placing.links.items)) placed)) ip.links;
-      faults = subst (AllZip (IsFaultOf c.args.model.now) (faults c.args.model.now)) (sym (c.in_ok-faults.ensures.faults ∙ ap (λ (l : List Pattern). flat_map (fault_copies l) c.as_slice-placed.result.now) patterns ∙ ap (flat_map (fault_copies (patterns_of_model c.args.model.now))) placed)) ip.faults;
-      tests = subst (AllZip (IsTestOf c.args.model.now) (tests c.args.model.now)) (sym (c.in_ok-tests.ensures.tests ∙ ap (λ (l : List Pattern). flat_map (test_copies l) c.as_slice-placed.result.now) patterns ∙ ap (flat_map (test_copies (patterns_of_model c.args.model.now))) placed)) ip.tests;
+      nodes = subst (AllZip (IsNodeOf c.args.valid.now) (nodes c.args.valid.now)) (sym (c.in_ok-nodes.ensures.nodes ∙ ap (λ (l : List Pattern). flat_map (node_copies l) c.as_slice-placed.result.now) patterns ∙ ap (flat_map (node_copies (patterns_of_model c.args.valid.now))) placed)) ip.nodes;
+      links = subst (AllZip (IsLinkOf c.args.valid.now) (links c.args.valid.now)) (sym (c.in_ok-links.ensures ∙ ap (λ (l : List (List LinkPattern)). flat_map (link_copies l) c.as_slice-placed.result.now) c.as_slice.ensures.value ∙ ap (flat_map (link_copies c.in_ok-placing.placing.links.items)) placed)) ip.links;
+      faults = subst (AllZip (IsFaultOf c.args.valid.now) (faults c.args.valid.now)) (sym (c.in_ok-faults.ensures.faults ∙ ap (λ (l : List Pattern). flat_map (fault_copies l) c.as_slice-placed.result.now) patterns ∙ ap (flat_map (fault_copies (patterns_of_model c.args.valid.now))) placed)) ip.faults;
+      tests = subst (AllZip (IsTestOf c.args.valid.now) (tests c.args.valid.now)) (sym (c.in_ok-tests.ensures.tests ∙ ap (λ (l : List Pattern). flat_map (test_copies l) c.as_slice-placed.result.now) patterns ∙ ap (flat_map (test_copies (patterns_of_model c.args.valid.now))) placed)) ip.tests;
       weights = c.in_ok-faults.ensures.weights;
       costs = c.in_ok-tests.ensures.costs;
       node_labels = c.in_ok-nodes.ensures.labels;

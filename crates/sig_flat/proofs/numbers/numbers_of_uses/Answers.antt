@@ -1,7 +1,13 @@
 use Rattle.std.proofs.Common.{arith}
 use Rattle.std.specs.Str.{bytes_eq}
+use Rattle.std.proofs.lemmas.List.{length-map}
+use Rattle.sig_types.specs.declared.model.Block.{Block}
+use Rattle.sig_types.specs.Breaches.{block_names}
 use Rattle.sig_flat.proofs.PlacesLaws.{place-le-length}
 use Rattle.sig_flat.proofs.numbers.numbers_of_uses.Goals as goal
 
-pub overflow_cast-place_of : goal.overflow_cast-place_of
-overflow_cast-place_of c = let le = place-le-length (bytes_eq c.used-item.result.block) c.args.names.now in omega (arith, le, c.place_of.ensures, c.requires)
+pub overflow_cast-block_place : goal.overflow_cast-block_place
+overflow_cast-block_place c =
+    let le = place-le-length (bytes_eq c.used-item.result.block) (block_names c.args.valid.now) in
+    let long = length-map c.args.valid.now.blocks (λ (b : Block). b.name) in
+    omega (arith, le, long, c.block_place.ensures, c.requires)

@@ -3,4 +3,4 @@ use Rattle.sig_flat.specs.Patterns.{pattern_of}
 use Rattle.sig_flat.proofs.pattern.patterns_of.Given as goal
 
 abbrev pub invariant-loop-block : goal.invariant-loop-block
-invariant-loop-block l = l.patterns.items ≡ map (pattern_of l.signals l.modes) (take l.block-index l.blocks)
+invariant-loop-block l = l.patterns.items ≡ map (pattern_of l.valid.signals l.valid.modes) (take l.block-index l.blocks)

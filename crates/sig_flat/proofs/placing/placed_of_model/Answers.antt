@@ -9,18 +9,18 @@ use Rattle.sig_flat.proofs.placing.placed_of_model.Goals as goal
 
 pub place_instances-requires-clause-block : goal.place_instances-requires-clause-block
 place_instances-requires-clause-block c =
-    let there = top-there c.args.model.now c.requires.known in
+    let there = top-there c.args.valid.now c.requires.known in
     let top = c.requires.survey.top in
     let long = c.requires.inners.long in
     omega arith
 
 pub place_instances-requires-clause-earlier : goal.place_instances-requires-clause-earlier
-place_instances-requires-clause-earlier c = nest-earlier c.args.model.now c.requires.known (sizes_in c.args.survey.now.counts.items) (sized c.args.model.now c.requires.known c.args.survey.now.counts.items c.requires.survey.counts_long c.requires.survey.counts) c.args.inners.now c.requires.inners.long c.requires.inners.nested
+place_instances-requires-clause-earlier c = nest-earlier c.args.valid.now c.requires.known (sizes_in c.args.survey.now.counts.items) (sized c.args.valid.now c.requires.known c.args.survey.now.counts.items c.requires.survey.counts_long c.requires.survey.counts) c.args.inners.now c.requires.inners.long c.requires.inners.nested
 
 pub place_instances-requires-clause-fits : goal.place_instances-requires-clause-fits
 place_instances-requires-clause-fits c =
     subst (λ k. StartsFit (placed_at c.args.inners.now [] k 0)) (sym c.requires.survey.top)
-    (starts-fit c.args.model.now c.requires.known c.requires.within (sizes_in c.args.survey.now.counts.items) (sized c.args.model.now c.requires.known c.args.survey.now.counts.items c.requires.survey.counts_long c.requires.survey.counts) c.args.inners.now c.requires.inners.long c.requires.inners.nested)
+    (starts-fit c.args.valid.now c.requires.known c.requires.within (sizes_in c.args.survey.now.counts.items) (sized c.args.valid.now c.requires.known c.args.survey.now.counts.items c.requires.survey.counts_long c.requires.survey.counts) c.args.inners.now c.requires.inners.long c.requires.inners.nested)
 
 pub place_instances-requires-clause-shown : goal.place_instances-requires-clause-shown
 place_instances-requires-clause-shown c = refl

@@ -1,9 +1,15 @@
-use Rattle.std.proofs.Common.{arith}
+use Rattle.std.proofs.Common.{refl, sym, arith}
+use Rattle.std.specs.Str.{bytes_eq}
+use Rattle.sig_flat.proofs.PlacesLaws.{none-place, some-place}
 use Rattle.sig_flat.proofs.WordLaws.{with-there, with-unknown}
 use Rattle.sig_flat.proofs.sets.with_mode.Goals as goal
 
-pub returns-then-place-len : goal.returns-then-place-len
-returns-then-place-len c = with-there c.args.known.now c.args.word c.args.name.now c.place_of-place.result c.len.result 32 c.place_of-place.ensures c.len.ensures c.if-place-len.true (let e = c.len.ensures in let r = c.requires in omega arith)
+pub returns-in-Some : goal.returns-in-Some
+returns-in-Some c =
+    let place = some-place (bytes_eq c.args.name.now) c.args.valid.now.modes c.in-Some.number (sym c.in-Some.ensures) in
+    with-there c.args.valid.now.modes c.args.word c.args.name.now c.in-Some.number _ 32 place.0 refl place.1 c.requires
 
-pub returns-else-place-len : goal.returns-else-place-len
-returns-else-place-len c = with-unknown c.args.known.now c.args.word c.args.name.now c.place_of-place.result c.len.result c.place_of-place.ensures c.len.ensures c.if-place-len.false
+pub returns-in-None : goal.returns-in-None
+returns-in-None c =
+    let none = none-place (bytes_eq c.args.name.now) c.args.valid.now.modes (sym c.in-None.ensures) in
+    with-unknown c.args.valid.now.modes c.args.word c.args.name.now _ _ refl refl (omega arith)

@@ -9,16 +9,16 @@ use Rattle.sig_flat.proofs.survey.counts_of.Goals as goal
 
 pub returns : goal.returns
 returns c =
-    let same : get_or c.as_slice-counts.result.now c.args.survey.now.top no_counts ≡ get_or c.args.survey.now.counts.items (top_of c.args.model.now) no_counts =
+    let same : get_or c.as_slice-counts.result.now c.args.survey.now.top no_counts ≡ get_or c.args.survey.now.counts.items (top_of c.args.valid.now) no_counts =
     ap (λ (l : List Counts). get_or l c.args.survey.now.top no_counts) c.as_slice-counts.ensures.value ∙ ap (λ k. get_or c.args.survey.now.counts.items k no_counts) c.requires.survey.top in
-    let at : AreCounts c.args.model.now (top_of c.args.model.now) (get_or c.args.survey.now.counts.items (top_of c.args.model.now) no_counts) =
-    c.requires.survey.counts (top_of c.args.model.now) (top-there c.args.model.now c.requires.known) in
-    let fewer : size (ones_of_blocks c.args.model.now) (numbers_of c.args.model.now) (top_of c.args.model.now) - 1 ≡ uses c.args.model.now = ap (λ n. n - 1) (sym (instances-counted c.args.model.now c.requires.known)) in
-    subst (CountsAre c.args.model.now) (sym same) (record {
-      depth = at.depth ∙ ap in_word (sym (depth-is c.args.model.now c.requires.known));
+    let at : AreCounts c.args.valid.now (top_of c.args.valid.now) (get_or c.args.survey.now.counts.items (top_of c.args.valid.now) no_counts) =
+    c.requires.survey.counts (top_of c.args.valid.now) (top-there c.args.valid.now c.requires.known) in
+    let fewer : size (ones_of_blocks c.args.valid.now) (numbers_of c.args.valid.now) (top_of c.args.valid.now) - 1 ≡ uses c.args.valid.now = ap (λ n. n - 1) (sym (instances-counted c.args.valid.now c.requires.known)) in
+    subst (CountsAre c.args.valid.now) (sym same) (record {
+      depth = at.depth ∙ ap in_word (sym (depth-is c.args.valid.now c.requires.known));
       uses = at.uses ∙ ap in_word fewer;
-      nodes = at.nodes ∙ ap in_word (sym (all-nodes c.args.model.now c.requires.known));
-      links = at.links ∙ ap in_word (sym (links-counted c.args.model.now c.requires.known));
-      faults = at.faults ∙ ap in_word (sym (all-faults c.args.model.now c.requires.known));
-      tests = at.tests ∙ ap in_word (sym (all-tests c.args.model.now c.requires.known));
+      nodes = at.nodes ∙ ap in_word (sym (all-nodes c.args.valid.now c.requires.known));
+      links = at.links ∙ ap in_word (sym (links-counted c.args.valid.now c.requires.known));
+      faults = at.faults ∙ ap in_word (sym (all-faults c.args.valid.now c.requires.known));
+      tests = at.tests ∙ ap in_word (sym (all-tests c.args.valid.now c.requires.known));
     })

@@ -30,7 +30,7 @@ returns-clause-matrix c =
     let rows = c.in_ok-rows.rows.items in
     let taken_rows = subst (λ l. AreRows flat (map (test_at flat.tests) l) (λ t. true) rows) c.as_slice.ensures.value c.in_ok-rows.ensures in
     let labels = subst (λ l. AllZip IsLabelOf (map (test_at flat.tests) l) c.in_ok-tests.tests) c.as_slice-2.ensures.value c.in_ok-tests.ensures in
-    matrix-from_parts flat c.args.mode (made c) (map (test_at flat.tests) numbers) rows c.in_ok-numbers.ensures.tests refl c.in_ok-faults.ensures.faults (c.in_ok-faults.ensures.rows ∙ c.as_slice-3.ensures.value) labels taken_rows
+    matrix-from_parts flat c.args.mode (made c) (map (test_at flat.tests) numbers) rows c.in_ok-numbers.ensures.tests refl c.in_ok-faults.ensures.faults (c.in_ok-faults.ensures.rows ∙ c.as_slice-3.ensures.value) labels taken_rows c.in_ok-faults.ensures.words
 
 pub returns-clause-valid : goal.returns-clause-valid
 returns-clause-valid c = valid-from_matrix c.args.flat.now c.args.mode (made c) c.requires.valid (returns-clause-matrix c)
