@@ -1,5 +1,6 @@
 -- How a run ends.
-use Rattle.std.proofs.Common.{◌≡◌, ⊤, ℕ, List, Option, Some, None, sym, subst}
+use Rattle.std.specs.Prelude.{⊤}
+use Rattle.std.proofs.Common.{◌≡◌, ℕ, List, Option, Some, None, refl, sym, subst}
 use Rattle.sig_edge.specs.Shelf.{Holds}
 use Rattle.sig_edge.specs.Sink.{Appends}
 use Rattle.teams_words.specs.declared.plan.Plan.{Plan}
@@ -8,7 +9,7 @@ use Rattle.teams_words.specs.declared.plan.Action.TheVariants.{Solve, Check, Mat
 use Rattle.teams_run.specs.declared.status.Status.{Status}
 use Rattle.teams_run.specs.declared.status.Status.TheVariants.{Done, ModelRefused, Usage, Bounded, ReadFault, WriteFault, NoMemory, Rejected, Missing, TooLong}
 use Rattle.teams_run.specs.Texts.{IsDue}
-use Rattle.teams_run.specs.Runs.{Moment, EndsAs, EndsFor, IsDueFor, IsDueOfChain, IsDueText, IsSilent}
+use Rattle.teams_run.specs.Runs.{Moment, EndsAs, EndsFor, IsDueFor, IsDueOfChain, IsDueOfFile, IsDueText, IsSilent, WantsModel}
 
 -- the statuses that come with a text
 abbrev HasText : Status → Type 0
@@ -72,3 +73,17 @@ usage given before after none silent = subst (λ o. EndsFor o before after Usage
 
 pub as_plan : (given : Option Plan) (plan : Plan) (before after : Moment) (status : Status) → given ≡ Some plan → EndsAs plan before after status → EndsFor given before after status
 as_plan given plan before after status is ends = subst (λ o. EndsFor o before after status) (sym is) ends
+
+-- what is due for a file, and for a chain, is what is due for the plan
+pub text_of_file : (plan : Plan) (holds : Holds) (status : Status) (text : List ℕ) → WantsModel plan → IsDueOfFile plan holds status text → IsDueText plan holds status text
+text_of_file plan holds status text wanted due = go plan.action wanted
+  where
+    go : (action : Action) → (action ≡ Sample → ⊥) → IsDueFor action plan holds status text
+    go Solve not_sample = due
+    go Check not_sample = due
+    go Matrix not_sample = due
+    go Figures not_sample = due
+    go Sample not_sample = absurd (not_sample refl)
+
+pub text_of_chain : (plan : Plan) (holds : Holds) (status : Status) (text : List ℕ) → plan.action ≡ Sample → IsDueOfChain plan status text → IsDueText plan holds status text
+text_of_chain plan holds status text is due = subst (λ action. IsDueFor action plan holds status text) (sym is) due

@@ -8,7 +8,7 @@ ghost use Rattle.sig_edge.specs.Shelf.{Holds, HoldsNone, HoldsLonger};
 ghost use Rattle.teams_words.specs.Plans.{plan_of, IsProper};
 ghost use Rattle.teams_run.specs.RefusalText.{refusal_line};
 ghost use Rattle.teams_run.specs.Texts.{IsDue, IsFit, cert_limit, cert_name};
-ghost use Rattle.teams_run.specs.Runs.{moment, EndsAs, EndsFor, IsDueText, WantsModel, HasLongFile, LacksFile};
+ghost use Rattle.teams_run.specs.Runs.{moment, EndsAs, EndsFor, IsDueOfFile, IsDueText, WantsModel, HasLongFile, LacksFile};
 
 use crate::answering::{answer_for, mode_name, prepared_for};
 use crate::due::Due;
@@ -99,7 +99,7 @@ fn check_due<D: Shelf>(
 fn file_due<D: Shelf>(alloc: Global, plan: &Plan, shelf: &mut D) -> Result<Due, FetchFault>
     requires proper { IsProper plan.now }
     requires file { WantsModel plan.now }
-    ensures due { IfOk result (λ due. IsDueText plan.now (D.holds shelf.old) due.status due.text.items) }
+    ensures due { IfOk result (λ due. IsDueOfFile plan.now (D.holds shelf.old) due.status due.text.items) }
     ensures missing { IsErrOf result FetchFault.Missing → Rose (D.misses shelf.old) (D.misses shelf.new) × LacksFile plan.now (D.holds shelf.old) }
     ensures failed { IsErrOf result FetchFault.Failed → Rose (D.faults shelf.old) (D.faults shelf.new) }
     ensures too_long { IsErrOf result FetchFault.TooLong → HasLongFile plan.now (D.holds shelf.old) }
@@ -114,6 +114,7 @@ fn file_due<D: Shelf>(alloc: Global, plan: &Plan, shelf: &mut D) -> Result<Due, 
 }
 
 /// What is due for the plan: for the chain of `sample`, which takes no file, or for a file.
+#[tactic(auto, using(crate::proofs::EndLaws::text_of_file, crate::proofs::EndLaws::text_of_chain))]
 fn due_for<D: Shelf>(alloc: Global, plan: &Plan, shelf: &mut D) -> Result<Due, FetchFault>
     requires { IsProper plan.now }
     ensures due { IfOk result (λ due. IsDueText plan.now (D.holds shelf.old) due.status due.text.items) }
