@@ -3,7 +3,9 @@
 //! from the one to the other joins the two.
 ghost use Rattle.std.specs.Prelude.{◌≤◌, length, IfOk};
 ghost use Rattle.seq_theory.specs.States.{IsOfClasses, firsts};
+ghost use Rattle.seq_theory.specs.Tree.{AsksOnly};
 ghost use Rattle.seq_inst.specs.Instances.{problem_of};
+ghost use Rattle.seq_inst.specs.Trees.{tree_of};
 ghost use Rattle.sig_matrix.specs.Valid.{IsValid};
 ghost use Rattle.sig_matrix.specs.Detection.{system_of};
 ghost use Rattle.sig_classes.specs.Labels.{labels_from};
@@ -54,7 +56,10 @@ pub fn outcome_of(
     requires few { length (firsts (system_of matrix.now)) ≤ 512 }
     requires classes { IsOfClasses (system_of matrix.now) (problem_of inst.now) }
     requires limit { IsLimit groups }
-    ensures { IfOk result (IsSolved (system_of matrix.now) (problem_of inst.now) groups) }
+    ensures solved { IfOk result (IsSolved (system_of matrix.now) (problem_of inst.now) groups) }
+    // A report can be written of it.
+    ensures there { IfOk result (λ o. AsksOnly (problem_of inst.now).tests (tree_of o.strategy)) }
+    ensures proper { IfOk result (λ o. o.low ≤ o.cost) }
 {
     let Walked { graph, missed } = walk(alloc, inst, groups)?;
     let outcome = finish_graph(alloc, inst, groups, graph, missed)?;

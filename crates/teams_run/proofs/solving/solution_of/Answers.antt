@@ -25,10 +25,10 @@ returns c =
     record {
       problem = p;
       outcome = c.in_ok-outcome.outcome;
-      solved = c.in_ok-outcome.ensures;
+      solved = c.in_ok-outcome.ensures.solved;
       verdict_is = refl;
       report = c.in_ok-text.ensures.text ∙ ap (λ l. report_bytes (report_from p c.in_ok-outcome.outcome l)) c.requires.prepared.labels;
       accepted =
-          c.reports_hold.ensures p labels c.args.groups o (weighed c.args.prepared.now.inst) valid.told c.in_ok-outcome.ensures.right
-          (form (c.outcomes_print.ensures p labels c.args.groups o valid.told (valid.some, valid.few) c.requires.limit c.requires.printable c.in_ok-outcome.ensures.right));
+          c.reports_hold.ensures p labels c.args.groups o (weighed c.args.prepared.now.inst) valid.told c.in_ok-outcome.ensures.solved.right
+          (form (c.outcomes_print.ensures p labels c.args.groups o valid.told (valid.some, valid.few) c.requires.limit c.requires.printable c.in_ok-outcome.ensures.solved.right));
     }
