@@ -1,5 +1,5 @@
 //! What is kept of a group, and numbers while there is room for them, on a worked instance.
-ghost use Rattle.std.specs.Prelude.{IfOk};
+ghost use Rattle.std.specs.Prelude.{◌≡◌, [], ◌∷◌, IfOk};
 ghost use Rattle.seq_inst.specs.Instances.{problem_of};
 ghost use Rattle.seq_graph.specs.Numbered.{AreNumbers};
 
@@ -11,7 +11,9 @@ use std::test::Fail;
 
 /// Two faults and a good state; test 0 costs 2 and fails for class 1, test 1 costs 1 and fails for
 /// class 2.
-fn two_faults(alloc: Global) -> Result<Instance, AllocError> {
+fn two_faults(alloc: Global) -> Result<Instance, AllocError>
+    ensures { IfOk result (λ i. i.costs.items ≡ 2 ∷ 1 ∷ []) }
+{
     let weights = vec![in alloc; 6, 3, 1]?;
     let costs = vec![in alloc; 2, 1]?;
     let passes = vec![in alloc;
@@ -57,7 +59,8 @@ fn what_is_kept_of_two_faults(rt: HostRuntime) -> Result<(), Fail> {
     assert_eq!(rt; (kept.number, kept.weight), (0, 10));
     assert_eq!(rt; (kept.bound, kept.greedy), (18, 27));
     assert_eq!(rt; kept.splits.len(), 0);
-    assert_eq!(rt; kept.waiting.len(), 2);
+    // Test 1 would cost 10 + 18, which is more than greedy, so test 0 waits alone.
+    assert_eq!(rt; kept.waiting.len(), 1);
     kept.evaluate(&mut scratch, &mut numbers, &inst, &all, 0)?;
     let first = Split {
         test: 0,
