@@ -1,5 +1,5 @@
 -- A chain unfolds within all limits, and has few ambiguity groups. What holds of each length is computed.
-use Rattle.std.proofs.Common.{◌≡◌, ◌∙◌, ℕ, ◌+◌, ◌<◌, ◌≤◌, Bool, true, false, List, [], ◌∷◌, length, filter, get_or, Option, Some, None, refl, ap, sym, arith}
+use Rattle.std.proofs.Common.{◌≡◌, ◌∙◌, ℕ, ◌+◌, ◌<◌, ◌≤◌, Bool, true, false, List, [], ◌∷◌, length, filter, get_or, Option, Some, None, refl, ap, sym, subst, arith}
 use Rattle.std.specs.Prelude.{nat_le, ◌&&◌, is_none}
 use Rattle.std.specs.List.{range_with_len, list_all, AllZip}
 use Rattle.std.specs.Fmt.{digits}
@@ -18,7 +18,18 @@ use Rattle.sig_flat.specs.Instances.{faults}
 use Rattle.sig_flat.specs.Flats.{IsFlatOf}
 use Rattle.sig_matrix.specs.declared.matrix.Matrix.{Matrix}
 use Rattle.sig_matrix.specs.Detection.{IsMatrixOf, system_of, state_count}
-use Rattle.teams_run.specs.Samples.{chain_model}
+use Rattle.sig_lines.specs.Pieces.{bytes_of}
+use Rattle.seq_theory.specs.Problem.{Problem}
+use Rattle.seq_inst.specs.declared.outcome.Outcome.{Outcome}
+use Rattle.seq_inst.specs.declared.outcome.Verdict.{Verdict}
+use Rattle.seq_inst.specs.declared.outcome.Verdict.TheVariants.{Optimal, Bounded as BoundedVerdict}
+use Rattle.teams_words.specs.declared.plan.Plan.{Plan}
+use Rattle.teams_words.specs.Plans.{value_of}
+use Rattle.teams_run.specs.declared.status.Status.{Status}
+use Rattle.teams_run.specs.declared.status.Status.TheVariants.{Done, Bounded}
+use Rattle.teams_run.specs.Solved.{IsSolved}
+use Rattle.teams_run.specs.Samples.{IsSummary, chain_model, summary_lines}
+use Rattle.teams_run.specs.Runs.{IsDueOfChain}
 
 -- what is computed for all numbers below n holds of each
 each_below : (p : ℕ → Bool) (n i : ℕ) → list_all p (range_with_len 0 n) ≡ true → i < n → p i ≡ true
@@ -70,3 +81,17 @@ few_groups n flat matrix few flat_is matrix_is =
     let one = at_most_one (nat_eq matrix.good 0) in
     let at_most : length (faults (chain_model n)) ≤ 100 = few_faults n few in
     omega (arith, groups, states, rows, faults_are, one, at_most)
+
+-- the summary of what a search came to is what is due for the chain
+pub sums_up : (plan : Plan) (parts : ℕ) (status : Status) (flat : Flat) (matrix : Matrix) (problem : Problem) (outcome : Outcome) (text : List ℕ) → parts ≡ value_of plan.model
+    → IsFlatOf (chain_model parts) flat → IsMatrixOf flat None matrix → IsSolved (system_of matrix) problem plan.groups outcome → text ≡ bytes_of (summary_lines parts matrix problem outcome)
+    → (outcome.verdict ≡ Optimal → status ≡ Done) → (outcome.verdict ≡ BoundedVerdict → status ≡ Bounded) → IsDueOfChain plan status text
+sums_up plan parts status flat matrix problem outcome text is flat_is matrix_is solved text_is optimal bounded = go outcome.verdict refl
+  where
+    summed : (verdict : Verdict) → outcome.verdict ≡ verdict → IsSummary (value_of plan.model) plan.groups verdict text
+    summed verdict e = subst (λ n. IsSummary n plan.groups verdict text) is
+        (record { flat = flat; matrix = matrix; flat_is = flat_is; matrix_is = matrix_is; problem = problem; outcome = outcome; solved = solved; verdict_is = e; text_is = text_is })
+
+    go : (verdict : Verdict) → outcome.verdict ≡ verdict → IsDueOfChain plan status text
+    go Optimal e = subst (λ s. IsDueOfChain plan s text) (sym (optimal e)) (summed Optimal e)
+    go BoundedVerdict e = subst (λ s. IsDueOfChain plan s text) (sym (bounded e)) (summed BoundedVerdict e)

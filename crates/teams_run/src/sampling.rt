@@ -4,6 +4,7 @@ ghost use Rattle.std.specs.Prelude.{◌≡◌, ◌≤◌, length, None, IfOk, If
 ghost use Rattle.seq_theory.specs.States.{IsOfClasses, firsts};
 ghost use Rattle.seq_inst.specs.Instances.{problem_of};
 ghost use Rattle.sig_types.specs.Breaches.{breaches};
+ghost use Rattle.sig_lines.specs.Pieces.{bytes_of};
 ghost use Rattle.sig_lines.specs.Written.{with_lines};
 ghost use Rattle.sig_flat.specs.Flats.{IsFlatOf};
 ghost use Rattle.sig_flat.specs.Valid.{IsValid as IsValidFlat};
@@ -89,7 +90,24 @@ fn write_summary(
     out.line(&["end"])
 }
 
+/// The summary.
+fn summary_text(
+    alloc: Global,
+    parts: u32,
+    matrix: &Matrix,
+    inst: &Instance,
+    outcome: &Outcome,
+) -> Result<Vec<u8>, AllocError>
+    requires { IsValid matrix.now }
+    ensures { IfOk result (λ text. text.items ≡ bytes_of (summary_lines parts matrix.now (problem_of inst.now) outcome.now)) }
+{
+    let mut out = Lines::new(alloc);
+    write_summary(&mut out, parts, matrix, inst, outcome)?;
+    Ok(out.into_bytes())
+}
+
 /// What `sample` writes.
+#[tactic(auto, using(crate::proofs::SampleLaws::sums_up))]
 pub fn sample_due(alloc: Global, plan: &Plan) -> Result<Due, AllocError>
     requires proper { IsProper plan.now }
     requires action { plan.now.action ≡ Action.Sample }
@@ -101,7 +119,6 @@ pub fn sample_due(alloc: Global, plan: &Plan) -> Result<Due, AllocError>
     chain_is_small(parts, &flat, &matrix);
     let inst = instance_of_few(alloc, &matrix)?;
     let outcome = outcome_of(alloc, &matrix, &inst, plan.groups)?;
-    let mut out = Lines::new(alloc);
-    write_summary(&mut out, parts, &matrix, &inst, &outcome)?;
-    Ok(Due::of_verdict(outcome.verdict, out.into_bytes()))
+    let text = summary_text(alloc, parts, &matrix, &inst, &outcome)?;
+    Ok(Due::of_verdict(outcome.verdict, text))
 }
