@@ -70,6 +70,7 @@ fn cert_name(plan: &Plan) -> &str
 }
 
 /// What is due for a certificate, which is fetched once the model is accepted.
+#[tactic(auto, using(crate::proofs::UnfitLaws::is_fit))]
 fn check_due<D: Shelf>(
     alloc: Global,
     plan: &Plan,
@@ -92,7 +93,10 @@ fn check_due<D: Shelf>(
     };
     let cert = fetch(alloc, shelf, cert_name(plan), 16_777_216)?;
     let mode = mode_name(plan);
-    in_memory(judgement_on(alloc, &accepted.matrix, &prepared, mode, cert.as_slice()))
+    match judgement_on(alloc, &accepted.matrix, &prepared, mode, cert.as_slice()) {
+        Ok(due) => Ok(due),
+        Err(_) => Err(FetchFault::OutOfMemory),
+    }
 }
 
 /// What is due for the model's file that the shelf holds.
