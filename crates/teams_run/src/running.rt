@@ -70,7 +70,6 @@ fn cert_name(plan: &Plan) -> &str
 }
 
 /// What is due for a certificate, which is fetched once the model is accepted.
-#[tactic(auto, using(crate::proofs::UnfitLaws::is_fit))]
 fn check_due<D: Shelf>(
     alloc: Global,
     plan: &Plan,
