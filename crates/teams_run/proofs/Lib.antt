@@ -3,6 +3,7 @@ pub mod RefusalLaws
 pub mod ModeLaws
 pub mod SampleLaws
 pub mod EndLaws
+pub mod UnfitLaws
 pub mod StandLaws
 pub mod DueLaws
 pub mod PrintableLaws

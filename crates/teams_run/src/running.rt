@@ -92,7 +92,10 @@ fn check_due<D: Shelf>(
     };
     let cert = fetch(alloc, shelf, cert_name(plan), 16_777_216)?;
     let mode = mode_name(plan);
-    in_memory(judgement_on(alloc, &accepted.matrix, &prepared, mode, cert.as_slice()))
+    match judgement_on(alloc, &accepted.matrix, &prepared, mode, cert.as_slice()) {
+        Ok(due) => Ok(due),
+        Err(_) => Err(FetchFault::OutOfMemory),
+    }
 }
 
 /// What is due for the model's file that the shelf holds.
