@@ -95,7 +95,7 @@ invariant_of-result c =
             let most = leb-true test.cost 1000000 costs.1 in
             (omega arith, omega arith, omega arith, omega arith);
         state = omega arith;
-        mode_names = λ n i. of-one (λ n. is_name n ≡ true) c.args.normal n (subst (λ n. is_name n ≡ true) c.as_bytes.ensures.value c.as_bytes.ensures.name) (subst (λ l. Contains l n) (c.in_ok-push.ensures.ok ∙ ap (λ l. l ++ c.args.normal ∷ []) c.new-modes.ensures) i);
+        mode_names = λ n i. of-one (λ n. is_name n ≡ true) c.args.normal n (subst (λ n. is_name n ≡ true) c.as_bytes-normal.ensures.value c.as_bytes-normal.ensures.name) (subst (λ l. Contains l n) (c.in_ok-push.ensures.ok ∙ ap (λ l. l ++ c.args.normal ∷ []) c.new-modes.ensures) i);
         node_labels = all-of-four (λ (n : Node). is_label n.path ≡ true) _ _ _ _ _ _ _ _ _ c.new-nodes.ensures c.in_ok-push-2.ensures.ok c.in_ok-push-3.ensures.ok c.in_ok-push-4.ensures.ok c.in_ok-push-5.ensures.ok
             (labelled _ _ c.in_ok-node.ensures refl) (labelled _ _ c.in_ok-node-2.ensures refl) (labelled _ _ c.in_ok-node-3.ensures refl) (labelled _ _ c.in_ok-node-4.ensures refl);
         fault_labels = all-of-two (λ (f : Fault). is_label f.label ≡ true) _ _ _ _ _ c.new-faults.ensures c.in_ok-push-6.ensures.ok c.in_ok-push-7.ensures.ok (labelled _ _ c.in_ok-fault.ensures.label refl) (labelled _ _ c.in_ok-fault-2.ensures.label refl);

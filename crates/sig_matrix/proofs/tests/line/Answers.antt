@@ -90,7 +90,7 @@ invariant_of-result c =
         fault_parts = all-of-two (λ (f : Fault). (f.node < length c.push-5.new.self) × (1 ≤ f.weight) × (f.weight ≤ 1000000)) _ _ _ _ _ c.new-faults.ensures c.in_ok-push-6.ensures.ok c.in_ok-push-7.ensures.ok (omega arith, omega arith, omega arith) (omega arith, omega arith, omega arith);
         test_points = all-of-one (λ (t : FlatTest). (t.node < length c.push-5.new.self) × (t.mode < length c.push.new.self) × (1 ≤ t.cost) × (t.cost ≤ 1000000)) _ _ _ c.new-tests.ensures c.in_ok-push-8.ensures.ok (omega arith, omega arith, omega arith, omega arith);
         state = omega arith;
-        mode_names = all-of-one (λ n. is_name n ≡ true) _ _ _ c.new-modes.ensures c.in_ok-push.ensures.ok (subst (λ n. is_name n ≡ true) c.as_bytes.ensures.value c.as_bytes.ensures.name);
+        mode_names = all-of-one (λ n. is_name n ≡ true) _ _ _ c.new-modes.ensures c.in_ok-push.ensures.ok (subst (λ n. is_name n ≡ true) c.as_bytes-normal.ensures.value c.as_bytes-normal.ensures.name);
         node_labels = all-of-four (λ (n : Node). is_label n.path ≡ true) _ _ _ _ _ _ _ _ _ c.new-nodes.ensures c.in_ok-push-2.ensures.ok c.in_ok-push-3.ensures.ok c.in_ok-push-4.ensures.ok c.in_ok-push-5.ensures.ok
             (labelled _ _ c.in_ok-node.ensures refl) (labelled _ _ c.in_ok-node-2.ensures refl) (labelled _ _ c.in_ok-node-3.ensures refl) (labelled _ _ c.in_ok-node-4.ensures refl);
         fault_labels = all-of-two (λ (f : Fault). is_label f.label ≡ true) _ _ _ _ _ c.new-faults.ensures c.in_ok-push-6.ensures.ok c.in_ok-push-7.ensures.ok (labelled _ _ c.in_ok-of.ensures refl) (labelled _ _ c.in_ok-of-2.ensures refl);
