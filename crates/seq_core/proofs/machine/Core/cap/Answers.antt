@@ -65,5 +65,5 @@ returns-clause-of c =
     let allowed : c.least_up-allowed.result ≡ least_up p (rows_of t.rows) (row_of r).group = c.least_up-allowed.ensures (row_of r) at in
     let le : least_up p (rows_of t.rows) (row_of r).group ≤ c.args.to = omega arith in
     subst (IsCoreOf p) (sym c.cap_to.ensures) (record {
-      sound = sound-after inst t.room t.rows (change_row t.rows c.args.place (capped c.args.to)) (Cap c.args.place c.args.to) c.requires.of.sound (row_of r, at, le) refl;
+      sound = sound-after c.runs_hold.ensures.runs inst t.room t.rows (change_row t.rows c.args.place (capped c.args.to)) (Cap c.args.place c.args.to) c.requires.of.sound (row_of r, at, le) refl;
     })

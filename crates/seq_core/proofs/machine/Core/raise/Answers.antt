@@ -65,5 +65,5 @@ returns-clause-of c =
     let allowed : c.most_low-allowed.result ≡ most_low p (rows_of t.rows) (row_of r).group = c.most_low-allowed.ensures (row_of r) at in
     let le : c.args.to ≤ most_low p (rows_of t.rows) (row_of r).group = omega arith in
     subst (IsCoreOf p) (sym c.raise_to.ensures) (record {
-      sound = sound-after inst t.room t.rows (change_row t.rows c.args.place (raised c.args.to)) (Raise c.args.place c.args.to) c.requires.of.sound (row_of r, at, le) refl;
+      sound = sound-after c.runs_hold.ensures.runs inst t.room t.rows (change_row t.rows c.args.place (raised c.args.to)) (Raise c.args.place c.args.to) c.requires.of.sound (row_of r, at, le) refl;
     })
