@@ -17,6 +17,7 @@ use crate::event::{Event, Illegal};
 use crate::places::Places;
 use seq_huff::Scratch;
 use seq_inst::{Group, Instance, Row};
+use seq_theory::{runs_hold, sound_rows_hold};
 use std::alloc::{AllocError, Global};
 use std::marker::Model;
 
@@ -54,6 +55,7 @@ impl Core {
         ensures of { IfOk result (λ c. IsCoreOf (problem_of inst.now) c) }
     {
         let _ = inst;
+        runs_hold();
         Core::with_room(alloc, limit)
     }
 
@@ -71,6 +73,7 @@ impl Core {
         ensures rows { result.now ≡ self.now.rows }
         ensures between { (p : Problem) → IsWeighed p → AreTold p → IsCoreOf p self.now → AreBetween p (rows_of result.now) }
     {
+        sound_rows_hold();
         self.rows.as_slice()
     }
 
@@ -114,6 +117,7 @@ impl Core {
         ensures err { OnErr result (self.new ≡ self.old) }
     {
         let _ = inst;
+        runs_hold();
         if let Some(place) = self.place_of(group) {
             return Err(Illegal::Repeated { place });
         }
@@ -140,6 +144,7 @@ impl Core {
         ensures ok { OnOk result (self.new.rows ≡ rows_after self.old.rows (Event.Raise place to)) }
         ensures err { OnErr result (self.new ≡ self.old) }
     {
+        runs_hold();
         let rows = self.len();
         if place >= rows {
             return Err(Illegal::NoPlace { rows });
@@ -167,6 +172,7 @@ impl Core {
         ensures ok { OnOk result (self.new.rows ≡ rows_after self.old.rows (Event.Cap place to)) }
         ensures err { OnErr result (self.new ≡ self.old) }
     {
+        runs_hold();
         let rows = self.len();
         if place >= rows {
             return Err(Illegal::NoPlace { rows });

@@ -13,7 +13,8 @@ ghost use Rattle.seq_huff.specs.Choice.{lesser_choice};
 
 use crate::scratch::Scratch;
 use crate::steps::step_sum;
-use seq_inst::{Answer, Group, Instance, Strategy, ask_first, is_leaf, part, splits, weight_of};
+use seq_inst::{Group, Instance, Strategy, ask_first, is_leaf, parts_of, splits, weight_of};
+use seq_theory::recursions_hold;
 use std::alloc::{AllocError, Global};
 
 /// A test and its sum.
@@ -66,10 +67,9 @@ pub fn greedy_cost(scratch: &mut Scratch, inst: &Instance, group: &Group) -> u64
     }
     let weight = weight_of(inst, group);
     let test = greedy_choice(scratch, inst, group, weight);
-    let pass_part = part(inst, group, test, Answer::Pass);
-    let pass = greedy_cost(scratch, inst, &pass_part);
-    let fail_part = part(inst, group, test, Answer::Fail);
-    let fail = greedy_cost(scratch, inst, &fail_part);
+    let parts = parts_of(inst, group, test);
+    let pass = greedy_cost(scratch, inst, &parts.pass);
+    let fail = greedy_cost(scratch, inst, &parts.fail);
     u64::from(inst.costs[test as usize]) * weight + (pass + fail)
 }
 
@@ -89,14 +89,14 @@ pub fn greedy(
     ensures leaves { IfOk result (λ s. leaf_count (tree_of s) ≤ vec_len inst.now.weights) }
     ensures short { IfOk result (λ s. height (tree_of s) ≤ 512) }
 {
+    recursions_hold();
     if is_leaf(inst, group) {
         return Ok(Strategy::Leaf);
     }
     let weight = weight_of(inst, group);
     let test = greedy_choice(scratch, inst, group, weight);
-    let pass_part = part(inst, group, test, Answer::Pass);
-    let pass = greedy(alloc, scratch, inst, &pass_part)?;
-    let fail_part = part(inst, group, test, Answer::Fail);
-    let fail = greedy(alloc, scratch, inst, &fail_part)?;
+    let parts = parts_of(inst, group, test);
+    let pass = greedy(alloc, scratch, inst, &parts.pass)?;
+    let fail = greedy(alloc, scratch, inst, &parts.fail)?;
     ask_first(alloc, test, pass, fail)
 }

@@ -18,7 +18,7 @@ ghost use Rattle.seq_huff.specs.Estimates.{IsEstimateOf, sum_without as sum_of_o
 use crate::mass::{Mass, least_huffman, mass_of, masses_of};
 use crate::order::Order;
 use crate::sums::first_sums;
-use seq_inst::{Answer, Group, Instance, part};
+use seq_inst::{Group, Instance, parts_of};
 
 /// What the estimates of a group's tests share: the group's mass, and by number the sum of so many of the
 /// cheapest tests that split it.
@@ -53,11 +53,10 @@ impl Estimate {
         ensures { result ≤ step_sum (problem_of inst.now) (bound_of (problem_of inst.now)) (members group.now) test }
     {
         let cost = u64::from(inst.costs[test as usize]);
-        let pass = part(inst, group, test, Answer::Pass);
-        let fail = part(inst, group, test, Answer::Fail);
-        let masses = masses_of(order, inst, self.mass, &pass, &fail);
-        let pass_huffman = least_huffman(inst, &pass, masses.pass);
-        let fail_huffman = least_huffman(inst, &fail, masses.fail);
+        let parts = parts_of(inst, group, test);
+        let masses = masses_of(order, inst, self.mass, &parts.pass, &parts.fail);
+        let pass_huffman = least_huffman(inst, &parts.pass, masses.pass);
+        let fail_huffman = least_huffman(inst, &parts.fail, masses.fail);
         let pass_least = self.least_bound(cost, masses.pass.weight, pass_huffman);
         let fail_least = self.least_bound(cost, masses.fail.weight, fail_huffman);
         cost * self.mass.weight + (pass_least + fail_least)

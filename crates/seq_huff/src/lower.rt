@@ -12,6 +12,7 @@ use crate::scratch::Scratch;
 use crate::sorting::sort_upward;
 use crate::weights::huffman;
 use seq_inst::{Group, Instance, is_leaf, splits, weight_of};
+use seq_theory::bounds_hold;
 
 /// Writes the costs of the tests that split the group, and says how many there are.
 fn write_costs(inst: &Instance, group: &Group, out: &mut [u64]) -> usize
@@ -57,6 +58,7 @@ pub fn bound(scratch: &mut Scratch, inst: &Instance, group: &Group) -> u64
     ensures low { IsAtMostLeast (problem_of inst.now) (members group.now) result }
     ensures fits { result ≤ greatest_cost }
 {
+    bounds_hold();
     if is_leaf(inst, group) {
         return 0;
     }

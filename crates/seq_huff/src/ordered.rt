@@ -15,6 +15,7 @@ use crate::order::Order;
 use crate::ranked::write_upward;
 use crate::scratch::Scratch;
 use seq_inst::{Group, Instance, is_leaf, splits};
+use seq_theory::bounds_hold;
 
 /// The sum of the first so many costs of splitting tests, and the cost after these, or 0.
 #[derive(Clone, Copy)]
@@ -64,6 +65,7 @@ pub fn ordered_bound(scratch: &mut Scratch, order: &Order, inst: &Instance, grou
     ensures low { IsAtMostLeast (problem_of inst.now) (members group.now) result }
     ensures fits { result ≤ greatest_cost }
 {
+    bounds_hold();
     if is_leaf(inst, group) {
         return 0;
     }

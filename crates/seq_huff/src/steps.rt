@@ -11,7 +11,8 @@ ghost use Rattle.seq_huff.specs.Choice.{lesser_number};
 
 use crate::lower::bound;
 use crate::scratch::Scratch;
-use seq_inst::{Answer, Group, Instance, is_leaf, part, splits, weight_of};
+use seq_inst::{Group, Instance, is_leaf, parts_of, splits, weight_of};
+use seq_theory::bounds_hold;
 
 /// The sum of a test over the group, of which the weight is known, and the bounds of its parts.
 pub(crate) fn step_sum(
@@ -26,10 +27,9 @@ pub(crate) fn step_sum(
     requires weight { weight ≡ weight_sum (problem_of inst.now) (members group.now) }
     ensures { result ≡ step_sum_of (problem_of inst.now) (bound_of (problem_of inst.now)) (members group.now) test }
 {
-    let pass_part = part(inst, group, test, Answer::Pass);
-    let pass = bound(scratch, inst, &pass_part);
-    let fail_part = part(inst, group, test, Answer::Fail);
-    let fail = bound(scratch, inst, &fail_part);
+    let parts = parts_of(inst, group, test);
+    let pass = bound(scratch, inst, &parts.pass);
+    let fail = bound(scratch, inst, &parts.fail);
     u64::from(inst.costs[test as usize]) * weight + (pass + fail)
 }
 
@@ -53,6 +53,7 @@ pub fn one_step(scratch: &mut Scratch, inst: &Instance, group: &Group) -> u64
     ensures wanted { WantsParts (problem_of inst.now) (members group.now) result }
     ensures fits { result ≤ greatest_cost }
 {
+    bounds_hold();
     if is_leaf(inst, group) {
         return 0;
     }

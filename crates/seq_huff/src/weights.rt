@@ -12,6 +12,7 @@ ghost use Rattle.seq_huff.specs.Bounds.{UndercutsTrees};
 use crate::merging::huffman_of;
 use crate::scratch::Scratch;
 use seq_inst::{Group, Instance};
+use seq_theory::huffman_is_least;
 
 /// Writes the weights of the group's classes, and says how many there are.
 fn write_weights(inst: &Instance, group: &Group, out: &mut [u64]) -> usize
@@ -38,6 +39,7 @@ pub fn huffman(scratch: &mut Scratch, inst: &Instance, group: &Group) -> u64
     ensures weights { goal_weights (problem_of inst.now) (members group.now) ≡ map (problem_of inst.now).weight (members group.now) }
     ensures least { UndercutsTrees (goal_weights (problem_of inst.now) (members group.now)) result }
 {
+    huffman_is_least();
     let count = write_weights(inst, group, &mut scratch.weights);
     huffman_of(&mut scratch.weights[..count])
 }

@@ -11,8 +11,7 @@ use Rattle.seq_theory.specs.Rows.{Row, no_value, groups_of, IsRow, AreDistinct, 
 use Rattle.std.proofs.Math.Nat.{mul-le-mul_left, mul-le-mul_right}
 use Rattle.seq_theory.proofs.GroupLaws.{filter-IsIn, length-two_filters, weight_of-parts}
 use Rattle.seq_theory.proofs.GreedyLaws.{greedy-cheap}
-use Rattle.seq_theory.specs.Tree.{IsLeast}
-use Rattle.seq_theory.proofs.LeastLaws.{least, count_up-IsIn, IsLeast-least, IsLeast-one}
+use Rattle.seq_theory.proofs.LeastLaws.{least, count_up-IsIn}
 use Rattle.seq_theory.proofs.PartsRecursion.{least_of-mono}
 use Rattle.seq_theory.proofs.LowLaws.{low-entered, bound-le-low, low-le-least, low-grows}
 use Rattle.seq_theory.proofs.ValLaws.{least_of-values-le, least_of-first, values-at_least, sum_with-parts, val-end, val-entered, IsBelow, val-falls, least-le-val, some-one}
@@ -373,14 +372,4 @@ module _ (p : Problem) (limit : ℕ) where
       let b = low-le-least p (groups_of rows) r.group w told within in
       let c = least-le-val p (groups_of rows) r.group value told within is in
       let d = s.ups r i value is in
-      (omega arith, omega arith)
-
-  pub run-bounds : (events : List Event) (r : Row) (n : ℕ) → IsSized p → IsWeighed p → AreTold p → AreAllowed p limit [] events → IsRow r (after_all [] events) → IsLeast p r.group n → (r.low ≤ n) × (n ≤ r.up)
-  run-bounds events r n sized w told a i l =
-      let s = events-sound [] events sized told none-sound a in
-      let b = sound-bounds (after_all [] events) r w told s i in
-      let real = s.real r i in
-      let e = IsLeast-one p r.group (least p r.group) n (IsLeast-least p r.group told (wanted-within p r.group real.wanted)) l in
-      let b0 = b.0 in
-      let b1 = b.1 in
       (omega arith, omega arith)

@@ -18,5 +18,5 @@ returns-clause-of c =
     let room : length (rows_of t.rows) < t.room = omega arith in
     record {
       sound = subst (λ n. IsSound (problem_of inst) n (rows_of c.add.new.self.rows)) (sym c.add.ensures.room)
-          (sound-after inst t.room t.rows c.add.new.self.rows (Enter c.args.group.now) c.requires.of.sound (c.requires.real, (place-absent t.rows g at).no_group, room) c.add.ensures.rows);
+          (sound-after c.runs_hold.ensures.runs inst t.room t.rows c.add.new.self.rows (Enter c.args.group.now) c.requires.of.sound (c.requires.real, (place-absent t.rows g at).no_group, room) c.add.ensures.rows);
     }
