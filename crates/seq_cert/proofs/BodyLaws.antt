@@ -20,7 +20,8 @@ use Rattle.seq_cert.specs.declared.report.GroupLine.{GroupLine}
 use Rattle.seq_cert.specs.declared.report.MissedLine.{MissedLine}
 use Rattle.seq_cert.specs.LineForms.{class_in, test_in, is_tree_line, tree_line_in, group_in, missed_in, end_in}
 use Rattle.seq_cert.specs.Text.{class_words, state_words, tree_words, group_words, missed_words, class_lines, test_lines, missed_lines, report_lines, report_bytes}
-use Rattle.seq_cert.specs.Reading.{head_at, states_at, class_of, class_at, classes_at, lines_at, asks_after, with_asks, and_more, tree_lines_at, tree_at, missed_at, body_at, report_with, whole_at, is_nothing, only, report_at}
+use Rattle.seq_cert.specs.Places.{asks_after, with_asks}
+use Rattle.seq_cert.specs.Reading.{head_at, states_at, class_of, class_at, classes_at, lines_at, and_more, tree_lines_at, tree_at, missed_at, body_at, report_with, whole_at, is_nothing, only, report_at}
 use Rattle.seq_cert.specs.ReportForm.{head_of_report, IsHead, AreStates, IsClassLine, IsClass, AreClasses, IsTest, AreTreeLines, IsGroupLine, IsMissed, IsMissing, IsReport}
 use Rattle.seq_cert.proofs.Spells.{AreLines-append, Took, Rereads, Spells, Took-then, ok_is, bind_ok, line_spells, pair_spells, then_spells, as_spells, fits_as, numbered_lines, many_spells}
 use Rattle.seq_cert.proofs.FormLaws.{class_form, test_form, IsTreeLine, tree_form, group_form, missed_form, end_form}

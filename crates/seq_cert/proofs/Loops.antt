@@ -10,7 +10,8 @@ use Rattle.seq_cert.specs.declared.report.ClassLine.{ClassLine}
 use Rattle.seq_cert.specs.declared.report.TreeLine.{TreeLine}
 use Rattle.sig_lines.specs.Pieces.{words_in}
 use Rattle.seq_cert.specs.LineForms.{state_in, is_tree_line, tree_line_in}
-use Rattle.seq_cert.specs.Reading.{Fails, lines_at, states_at, class_at, classes_at, asks_after, with_asks, tree_at}
+use Rattle.seq_cert.specs.Reading.{Fails, lines_at, states_at, class_at, classes_at, tree_at}
+use Rattle.seq_cert.specs.Places.{asks_after, with_asks}
 
 -- what was read before, and what is still read
 abbrev pub with_front : {A : Type 0} → List A → Reading (List A) → Reading (List A)

@@ -17,6 +17,7 @@ use Rattle.seq_cert.specs.declared.report.TreeLine.{TreeLine}
 use Rattle.seq_cert.specs.declared.report.TreeLine.TheVariants.{Ask, Leaf}
 use Rattle.seq_cert.specs.declared.report.GroupLine.{GroupLine}
 use Rattle.seq_cert.specs.declared.report.MissedLine.{MissedLine}
+use Rattle.seq_cert.specs.Places.{asks_after, with_asks}
 use Rattle.seq_cert.specs.LineForms.{most_64, numbered, title_in, mode_in, result_in, class_in, state_in, test_in, is_tree_line, tree_line_in, group_in, missed_in, end_in}
 
 -- where a reader of the code stands
@@ -101,20 +102,6 @@ classes_at room (suc count) k c = do
   class ← class_at room k c
   more ← classes_at (room - length (class.0).states) count (suc k) class.1
   Ok (class.0 ∷ more.0, more.1)
-
--- how many asks are left after a tree line
-abbrev pub asks_after : ℕ → TreeLine → Option ℕ
-asks_after asks (Leaf c) = Some asks
-asks_after zero (Ask t) = None
-asks_after (suc asks) (Ask t) = Some asks
-
-abbrev pub with_left : TreeLine → Option ℕ → Option (TreeLine × ℕ)
-with_left line None = None
-with_left line (Some left) = Some (line, left)
-
-abbrev pub with_asks : ℕ → Option TreeLine → Option (TreeLine × ℕ)
-with_asks asks None = None
-with_asks asks (Some line) = with_left line (asks_after asks line)
 
 -- a tree line, and then more of them, where so many asks are left
 abbrev pub and_more : ℕ → (ℕ → Reading (List TreeLine)) → Option (TreeLine × ℕ) → Reading (List TreeLine)

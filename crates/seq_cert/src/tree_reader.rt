@@ -3,7 +3,8 @@
 ghost use Rattle.std.specs.Prelude.{◌≡◌};
 ghost use Rattle.sig_lines.specs.Pieces.{words_in};
 ghost use Rattle.seq_cert.specs.LineForms.{is_tree_line, tree_line_in};
-ghost use Rattle.seq_cert.specs.Reading.{Gives, place, asks_after, tree_at};
+ghost use Rattle.seq_cert.specs.Places.{asks_after};
+ghost use Rattle.seq_cert.specs.Reading.{Gives, place, tree_at};
 
 use crate::due_line::or_bad;
 use crate::fault::ReportFault;
