@@ -15,7 +15,7 @@ use Rattle.seq_cert.specs.declared.report.StateLine.{StateLine}
 use Rattle.seq_cert.specs.declared.report.TreeLine.{TreeLine}
 use Rattle.seq_cert.specs.declared.report.MissedLine.{MissedLine}
 use Rattle.seq_cert.specs.LineForms.{most_64, numbered, title_in, mode_in, result_in, class_in, state_in, test_in, is_tree_line, tree_line_in, group_in, missed_in, end_in}
-use Rattle.seq_cert.specs.Reading.{head_at, head_from, lines_at, states_at, class_of, class_at, classes_at, and_more, tree_lines_at, tree_at, missed_at, is_nothing, body_at, report_with, whole_at, only, report_at}
+use Rattle.seq_cert.specs.Reading.{head_at, head_from, lines_at, states_at, class_line_of, class_at, classes_at, and_more, tree_lines_at, read_tree, read_missed, is_nothing, body_at, report_with, whole_at, only, report_at}
 use Rattle.seq_cert.specs.Places.{with_asks, Told, Place, title, mode, states, classes, tests, weight, result, cost, low, gap, limit, groups, class, state, test, tree, group, end, over, after_group, after_tree, after_test, after_class, after_state, next_place, is_over, AreFormed, IsBadAt, IsFirstBadLine}
 use Rattle.seq_cert.specs.BothWays.{HasOneFirst}
 
@@ -119,7 +119,7 @@ states_go told left k (suc room) (suc count) number lines tail =
 class_go : (told : Told) (left k room : ℕ) → Reads (class_at room k) (class (suc left) k room told) (λ c. class left (suc k) (room - length c.states) told)
 unfolding class_at
 class_go told left k room =
-    seen class_of (pair (line_at (class_in k)) (λ x. states_at room x.1)) (class (suc left) k room told) (λ c. class left (suc k) (room - length c.states) told)
+    seen class_line_of (pair (line_at (class_in k)) (λ x. states_at room x.1)) (class (suc left) k room told) (λ c. class left (suc k) (room - length c.states) told)
     (two (line_at (class_in k)) (λ x. states_at room x.1) (class (suc left) k room told) (λ x. state x.1 room left (suc k) told) (λ y. class left (suc k) (room - length y.1) told)
     (line (class_in k) (class (suc left) k room told) (λ x. state x.1 room left (suc k) told) refl (λ w. refl))
     (λ x. states_go told left (suc k) room x.1))
@@ -163,8 +163,8 @@ missed_on : (x : Reading MissedLine) → after (λ a. end) x ≡ after (λ (b : 
 missed_on (Ok x) = refl
 missed_on (Err n) = refl
 
-missed_go : (v : Verdict) → Reads (missed_at v) (group 0 v) (λ x. end)
-unfolding missed_at
+missed_go : (v : Verdict) → Reads (read_missed v) (group 0 v) (λ x. end)
+unfolding read_missed
 missed_go Optimal number lines tail = alike (group 0 Optimal) end refl refl (λ w. refl) number lines tail
 missed_go Bounded number lines tail = line missed_in (group 0 Bounded) (λ x. end) refl (λ w. refl) number lines tail ∙ missed_on (line_at missed_in (record { number = number; lines = lines; tail = tail }))
 
@@ -178,11 +178,11 @@ body_go : (h : Head) → Reads (body_at h) (class h.classes 0 4097 (told_by h)) 
 unfolding body_at
 body_go h =
     let told : Told = told_by h in
-    two (classes_at 4097 h.classes 0) (λ x. lines_at test_in h.tests 0 then (tree_at 511 then (lines_at (λ k. group_in) h.groups 0 then (missed_at h.verdict then line_at end_in)))) (class h.classes 0 4097 (told_by h)) (λ x. test h.tests 0 (told_by h)) (λ y. over) (classes_go (told_by h) h.classes 0 4097) (λ c.
-    two (lines_at test_in h.tests 0) (λ x. tree_at 511 then (lines_at (λ k. group_in) h.groups 0 then (missed_at h.verdict then line_at end_in))) (test h.tests 0 (told_by h)) (λ x. tree 511 (told_by h)) (λ y. over) (tests_go (told_by h) h.tests) (λ t.
-    two (tree_at 511) (λ x. lines_at (λ k. group_in) h.groups 0 then (missed_at h.verdict then line_at end_in)) (tree 511 (told_by h)) (λ x. group h.groups h.verdict) (λ y. over) (λ number lines tail. tree_go (told_by h) lines 511 number tail) (λ a.
-    two (lines_at (λ k. group_in) h.groups 0) (λ x. missed_at h.verdict then line_at end_in) (group h.groups h.verdict) (λ x. group 0 h.verdict) (λ y. over) (groups_go h.verdict h.groups) (λ g.
-    two (missed_at h.verdict) (λ x. line_at end_in) (group 0 h.verdict) (λ x. end) (λ y. over) (missed_go h.verdict) (λ m. end_go)))))
+    two (classes_at 4097 h.classes 0) (λ x. lines_at test_in h.tests 0 then (read_tree 511 then (lines_at (λ k. group_in) h.groups 0 then (read_missed h.verdict then line_at end_in)))) (class h.classes 0 4097 (told_by h)) (λ x. test h.tests 0 (told_by h)) (λ y. over) (classes_go (told_by h) h.classes 0 4097) (λ c.
+    two (lines_at test_in h.tests 0) (λ x. read_tree 511 then (lines_at (λ k. group_in) h.groups 0 then (read_missed h.verdict then line_at end_in))) (test h.tests 0 (told_by h)) (λ x. tree 511 (told_by h)) (λ y. over) (tests_go (told_by h) h.tests) (λ t.
+    two (read_tree 511) (λ x. lines_at (λ k. group_in) h.groups 0 then (read_missed h.verdict then line_at end_in)) (tree 511 (told_by h)) (λ x. group h.groups h.verdict) (λ y. over) (λ number lines tail. tree_go (told_by h) lines 511 number tail) (λ a.
+    two (lines_at (λ k. group_in) h.groups 0) (λ x. read_missed h.verdict then line_at end_in) (group h.groups h.verdict) (λ x. group 0 h.verdict) (λ y. over) (groups_go h.verdict h.groups) (λ g.
+    two (read_missed h.verdict) (λ x. line_at end_in) (group 0 h.verdict) (λ x. end) (λ y. over) (missed_go h.verdict) (λ m. end_go)))))
 
 -- the first twelve lines, from the last one on
 abbrev start : (classes tests : ℕ) → Verdict → ℕ → Place

@@ -14,7 +14,7 @@ use Rattle.seq_cert.specs.LabelsOf.{AreLabelsOf}
 use Rattle.seq_cert.specs.LineForms.{is_label, is_mode}
 use Rattle.seq_cert.specs.ReportForm.{InRange, IsReport}
 use Rattle.seq_cert.specs.OutcomeReport.{report_from}
-use Rattle.seq_cert.specs.Printable.{IsPrintable, AreNumbers}
+use Rattle.seq_cert.specs.Printable.{IsPrintable, FitWords}
 use Rattle.seq_cert.specs.Places.{IsFirstBadLine}
 use Rattle.seq_cert.specs.Text.{report_bytes}
 use Rattle.seq_cert.specs.declared.report.Report.{Report}
