@@ -17,7 +17,7 @@ use Rattle.seq_core.specs.declared.event.Event.{Event}
 use Rattle.seq_core.specs.declared.event.Event.TheVariants.{Enter, Raise, Cap}
 use Rattle.seq_core.specs.declared.event.Illegal.{Illegal}
 use Rattle.seq_core.specs.declared.event.Illegal.TheVariants.{Limit, TooHigh, TooLow}
-use Rattle.seq_core.specs.RowsOf.{row_of, rows_of, place_in, AreFit}
+use Rattle.seq_core.specs.RowsOf.{row_of, rows_of, place_of_group, AreFit}
 use Rattle.seq_core.specs.Events.{event_of, EntersReal, rows_after, enter_refusal, raise_refusal, cap_refusal, refusal, answer}
 use Rattle.seq_core.proofs.TableLaws.{rows_of-more, place-found, place-absent, found-entered}
 use Rattle.seq_core.proofs.ChangeLaws.{raised-rows, capped-rows}
@@ -60,10 +60,10 @@ sound-after law inst limit old new e s a is =
 
 -- ---- refused exactly where it is not allowed ----
 
-pub enter-allowed : (p : Problem) (limit : ℕ) (rows : List Row) (group : List ℕ) → IsReal p group → enter_refusal limit (rows_of rows) (place_in (rows_of rows) group) ≡ None → IsAllowed p limit (rows_of rows) (enter group)
-enter-allowed p limit rows group real e = go (place_in (rows_of rows) group) refl e
+pub enter-allowed : (p : Problem) (limit : ℕ) (rows : List Row) (group : List ℕ) → IsReal p group → enter_refusal limit (rows_of rows) (place_of_group (rows_of rows) group) ≡ None → IsAllowed p limit (rows_of rows) (enter group)
+enter-allowed p limit rows group real e = go (place_of_group (rows_of rows) group) refl e
   where
-    go : (o : Option ℕ) → place_in (rows_of rows) group ≡ o → enter_refusal limit (rows_of rows) o ≡ None → IsAllowed p limit (rows_of rows) (enter group)
+    go : (o : Option ℕ) → place_of_group (rows_of rows) group ≡ o → enter_refusal limit (rows_of rows) o ≡ None → IsAllowed p limit (rows_of rows) (enter group)
     go (Some k) is e = absurd (let bad : ⊥ = cc in bad)
     go None is e = (real, (place-absent rows group is).no_group, room (nat_lt (length (rows_of rows)) limit) refl e)
       where
@@ -71,10 +71,10 @@ enter-allowed p limit rows group real e = go (place_in (rows_of rows) group) ref
         room true y e = ltb-true (length (rows_of rows)) limit y
         room false n e = absurd (let bad : ⊥ = cc in bad)
 
-pub allowed-enter : (p : Problem) (limit : ℕ) (rows : List Row) (group : List ℕ) → IsAllowed p limit (rows_of rows) (enter group) → enter_refusal limit (rows_of rows) (place_in (rows_of rows) group) ≡ None
-allowed-enter p limit rows group a = go (place_in (rows_of rows) group) refl
+pub allowed-enter : (p : Problem) (limit : ℕ) (rows : List Row) (group : List ℕ) → IsAllowed p limit (rows_of rows) (enter group) → enter_refusal limit (rows_of rows) (place_of_group (rows_of rows) group) ≡ None
+allowed-enter p limit rows group a = go (place_of_group (rows_of rows) group) refl
   where
-    go : (o : Option ℕ) → place_in (rows_of rows) group ≡ o → enter_refusal limit (rows_of rows) o ≡ None
+    go : (o : Option ℕ) → place_of_group (rows_of rows) group ≡ o → enter_refusal limit (rows_of rows) o ≡ None
     go None is = rw (lt-ltb (length (rows_of rows)) limit a.2) refl
     go (Some k) is = absurd (
         let f = place-found rows group k is in

@@ -9,7 +9,7 @@ ghost use Rattle.seq_theory.specs.Graph.{IsReal};
 ghost use Rattle.seq_theory.specs.Rows.{IsAllowed};
 ghost use Rattle.seq_inst.specs.Members.{members};
 ghost use Rattle.seq_inst.specs.Instances.{problem_of};
-ghost use Rattle.seq_core.specs.RowsOf.{rows_of, place_in};
+ghost use Rattle.seq_core.specs.RowsOf.{rows_of, place_of_group};
 ghost use Rattle.seq_core.specs.Changes.{change_row, new_row, raised, capped};
 ghost use Rattle.seq_core.specs.Events.{event_of, EntersReal, rows_after, enter_refusal, raise_refusal, cap_refusal, refusal, answer, IsCoreOf, AreBetween};
 
@@ -31,14 +31,14 @@ pub struct Core {
 
 impl Model for Core {
     ghost use Rattle.std.specs.Prelude.{◌≡◌, ◌^◌, ◌<◌, ◌≤◌, length, vec_capacity};
-    ghost use Rattle.seq_core.specs.Tables.{Table, numbered};
+    ghost use Rattle.seq_core.specs.Tables.{Table, placed_groups};
 
     ghost Value = { Table };
 
     ghost view = { λ c. record { room = c.index.room; rows = c.rows.items } };
 
     ghost invariant = { λ c. record {
-      numbers : c.index.placed ≡ numbered 0 c.rows.items;
+      numbers : c.index.placed ≡ placed_groups 0 c.rows.items;
       few : length c.rows.items ≤ c.index.room;
       small : c.index.room < 2 ^ 32;
       rows_room : c.index.room ≤ vec_capacity c.rows;
@@ -112,7 +112,7 @@ impl Core {
         requires real { IsReal (problem_of inst.now) (members group.now) }
         ensures of { IsCoreOf (problem_of inst.now) self.new }
         ensures limit { self.new.room ≡ self.old.room }
-        ensures answer { result ≡ answer (enter_refusal self.old.room (rows_of self.old.rows) (place_in (rows_of self.old.rows) (members group.now))) }
+        ensures answer { result ≡ answer (enter_refusal self.old.room (rows_of self.old.rows) (place_of_group (rows_of self.old.rows) (members group.now))) }
         ensures ok { OnOk result (self.new.rows ≡ rows_after self.old.rows (Event.Enter group.now)) }
         ensures err { OnErr result (self.new ≡ self.old) }
     {
@@ -201,14 +201,14 @@ impl Core {
 
     /// The place of the group, if it was entered.
     fn place_of(&self, group: &Group) -> Option<u32>
-        ensures { result ≡ place_in (rows_of self.now.rows) (members group.now) }
+        ensures { result ≡ place_of_group (rows_of self.now.rows) (members group.now) }
     {
         self.index.find(group)
     }
 
     /// Gives the group a row of which nothing is known.
     pub(crate) fn add(&mut self, group: &Group)
-        requires absent { place_in (rows_of self.old.rows) (members group.now) ≡ None }
+        requires absent { place_of_group (rows_of self.old.rows) (members group.now) ≡ None }
         requires room { length self.old.rows < self.old.room }
         ensures room { self.new.room ≡ self.old.room }
         ensures rows { self.new.rows ≡ self.old.rows ++ new_row group.now ∷ [] }

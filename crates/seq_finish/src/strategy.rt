@@ -10,7 +10,7 @@ ghost use Rattle.seq_inst.specs.Members.{members};
 ghost use Rattle.seq_inst.specs.Instances.{problem_of};
 ghost use Rattle.seq_inst.specs.Trees.{tree_of};
 ghost use Rattle.seq_graph.specs.Numbered.{AreNumbers};
-ghost use Rattle.seq_core.specs.Tables.{numbered};
+ghost use Rattle.seq_core.specs.Tables.{placed_groups};
 ghost use Rattle.seq_core.specs.Settled.{groups_in};
 ghost use Rattle.seq_finish.specs.Outcomes.{IsSettled};
 
@@ -33,7 +33,7 @@ fn reaches(
     weight: u64,
     value: u64,
 ) -> bool
-    requires placed { places.now.placed ≡ numbered 0 rows.now }
+    requires placed { places.now.placed ≡ placed_groups 0 rows.now }
     requires settled { All (IsSettled (problem_of inst.now) (groups_in rows.now)) rows.now }
     requires within { IsWithin (problem_of inst.now) (members group.now) }
     requires there { test < vec_len inst.now.costs }
@@ -55,7 +55,7 @@ fn reaches(
 
 /// The lowest test that reaches the group's value, where greedy costs more.
 fn value_test(inst: &Instance, rows: &[Row], places: &Places, group: &Group, value: u64) -> u32
-    requires placed { places.now.placed ≡ numbered 0 rows.now }
+    requires placed { places.now.placed ≡ placed_groups 0 rows.now }
     requires settled { All (IsSettled (problem_of inst.now) (groups_in rows.now)) rows.now }
     requires within { IsWithin (problem_of inst.now) (members group.now) }
     requires value { val (problem_of inst.now) (groups_in rows.now) (members group.now) ≡ Some value }
@@ -83,7 +83,7 @@ pub(crate) fn strategy_of(
     group: &Group,
 ) -> Result<Strategy, AllocError>
     requires numbers { AreNumbers (problem_of inst.now) numbers.old }
-    requires placed { places.now.placed ≡ numbered 0 rows.now }
+    requires placed { places.now.placed ≡ placed_groups 0 rows.now }
     requires settled { All (IsSettled (problem_of inst.now) (groups_in rows.now)) rows.now }
     requires within { IsWithin (problem_of inst.now) (members group.now) }
     requires valued { IsSome (val (problem_of inst.now) (groups_in rows.now) (members group.now)) }

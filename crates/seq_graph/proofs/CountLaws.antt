@@ -9,7 +9,7 @@ use Rattle.std.proofs.lemmas.Option.{slice_get-map, slice_get_read, slice_get_wi
 use Rattle.seq_theory.specs.Problem.{Problem, is_end, pass_part, fail_part, weight_of}
 use Rattle.seq_theory.specs.Bound.{step_sum}
 use Rattle.seq_theory.specs.Graph.{step_value, sum_with}
-use Rattle.seq_theory.specs.Rows.{Row as PlainRow, no_value, IsRow, row_of, known_low, known_up, up_or}
+use Rattle.seq_theory.specs.Rows.{Row as PlainRow, no_value, IsRow, row_for, known_low, known_up, up_or}
 use Rattle.seq_huff.specs.Bounds.{greatest_cost}
 use Rattle.seq_inst.specs.declared.instance.Instance.{Instance}
 use Rattle.seq_inst.specs.declared.outcome.Row.{Row}
@@ -67,9 +67,9 @@ pub record HasUp (rows : List Row) (g : List ℕ) (u : ℕ) : Type 0 where
   pub some : row.up ≢ no_value
 
 up-of-row : (p : Problem) (rows : List Row) (g : List ℕ) (u : ℕ) → is_end p g ≡ false → known_up p (rows_from rows) g ≡ Some u → HasUp rows g u
-up-of-row p rows g u n e = go (row_of (rows_from rows) g) refl (rw n at e)
+up-of-row p rows g u n e = go (row_for (rows_from rows) g) refl (rw n at e)
   where
-    found : (r : PlainRow) → row_of (rows_from rows) g ≡ Some r → cond (nat_eq r.up no_value) None (Some r.up) ≡ Some u → HasUp rows g u
+    found : (r : PlainRow) → row_for (rows_from rows) g ≡ Some r → cond (nat_eq r.up no_value) None (Some r.up) ≡ Some u → HasUp rows g u
     found r at is = elim (cases_Bool (nat_eq r.up no_value)) [
       | inl y ↦ absurd (let h : None ≡ Some u = rw y at is in let bad : ⊥ = cc in bad)
       | inr ne ↦
@@ -78,7 +78,7 @@ up-of-row p rows g u n e = go (row_of (rows_from rows) g) refl (rw n at e)
           record { row = r; of = row_of-found (rows_from rows) g r at; up_is = same; some = λ none. true≢false (sym (eq-eqb r.up no_value none) ∙ ne) })
     ]
 
-    go : (o : Option PlainRow) → row_of (rows_from rows) g ≡ o → up_or (row_of (rows_from rows) g) ≡ Some u → HasUp rows g u
+    go : (o : Option PlainRow) → row_for (rows_from rows) g ≡ o → up_or (row_for (rows_from rows) g) ≡ Some u → HasUp rows g u
     go None is up = absurd (let h : None ≡ Some u = sym (ap up_or is) ∙ up in let bad : ⊥ = cc in bad)
     go (Some r) is up = found r is (sym (ap up_or is) ∙ up)
 

@@ -9,7 +9,7 @@ use Rattle.std.proofs.Math.ListN.{length-set}
 use Rattle.seq_theory.specs.Problem.{Problem, is_end, splitting, least_of, pass_part, fail_part, weight_of}
 use Rattle.seq_theory.specs.Greedy.{greedy_cost}
 use Rattle.seq_theory.specs.Graph.{same_group, is_entered, step_value, sum_with, IsReal}
-use Rattle.seq_theory.specs.Rows.{Row as PlainRow, no_value, groups_of, IsSound, row_of, up_or, known_up, most_low, least_up, enter, raise, cap, after, change_at}
+use Rattle.seq_theory.specs.Rows.{Row as PlainRow, no_value, groups_of, IsSound, row_for, up_or, known_up, most_low, least_up, enter, raise, cap, after, change_at}
 use Rattle.seq_theory.proofs.RowLaws.{events-sound, wanted-within}
 use Rattle.seq_theory.proofs.PartsRecursion.{filter_map-agree}
 use Rattle.seq_huff.specs.Bounds.{greatest_cost}
@@ -90,7 +90,7 @@ up-Narrows (r ∷ rs) (s ∷ ss) (suc k) h lt = up-Narrows rs ss k h.3 (omega ar
 
 -- ---- raising changes no up ----
 
-up-changed : (rows : List PlainRow) (k to : ℕ) (group : List ℕ) → up_or (row_of (after rows (raise k to)) group) ≡ up_or (row_of rows group)
+up-changed : (rows : List PlainRow) (k to : ℕ) (group : List ℕ) → up_or (row_for (after rows (raise k to)) group) ≡ up_or (row_for rows group)
 up-changed [] k to group = refl
 up-changed (r ∷ rest) zero to group = elim (cases_Bool (same_group group r.group)) [ inl y ↦ rw y refl | inr n ↦ rw n refl ]
 up-changed (r ∷ rest) (suc k) to group = elim (cases_Bool (same_group group r.group)) [ inl y ↦ rw y refl | inr n ↦ rw n (up-changed rest k to group) ]

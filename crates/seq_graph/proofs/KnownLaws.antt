@@ -5,7 +5,7 @@ use Rattle.std.proofs.lemmas.Bool.{cases_Bool}
 use Rattle.seq_theory.specs.Problem.{Problem, IsWithin, IsWeighed, IsSized, AreTold, is_end, fails, pass_part, fail_part, weight_of}
 use Rattle.seq_theory.specs.Bound.{bound}
 use Rattle.seq_theory.specs.Graph.{same_group, low, IsReal}
-use Rattle.seq_theory.specs.Rows.{Row as PlainRow, groups_of, IsRow, row_of, known_low}
+use Rattle.seq_theory.specs.Rows.{Row as PlainRow, groups_of, IsRow, row_for, known_low}
 use Rattle.seq_theory.proofs.LeastLaws.{least}
 use Rattle.seq_theory.proofs.GroupLaws.{length-two_filters, weight_of-parts}
 use Rattle.seq_theory.proofs.GreedyLaws.{part-within, greedy-cheap, least-le-greedy, bound-end}
@@ -37,11 +37,11 @@ pub record IsRowOf (rows : List PlainRow) (group : List ℕ) (r : PlainRow) : Ty
   pub among : IsRow r rows
   pub same : group ≡ r.group
 
-pub row_of-found : (rows : List PlainRow) (group : List ℕ) (r : PlainRow) → row_of rows group ≡ Some r → IsRowOf rows group r
+pub row_of-found : (rows : List PlainRow) (group : List ℕ) (r : PlainRow) → row_for rows group ≡ Some r → IsRowOf rows group r
 row_of-found [] group r e = absurd (let h : ⊥ = cc in h)
 row_of-found (s ∷ rest) group r e = go (same_group group s.group) refl e (row_of-found rest group r)
   where
-    go : (b : Bool) → same_group group s.group ≡ b → cond b (Some s) (row_of rest group) ≡ Some r → (row_of rest group ≡ Some r → IsRowOf rest group r) → IsRowOf (s ∷ rest) group r
+    go : (b : Bool) → same_group group s.group ≡ b → cond b (Some s) (row_for rest group) ≡ Some r → (row_for rest group ≡ Some r → IsRowOf rest group r) → IsRowOf (s ∷ rest) group r
     go true y e later = let is : s ≡ r = cc in record { among = inl is; same = same_group-true group s.group y ∙ ap (λ x. x.group) is }
     go false n e later = let f = later e in record { among = inr f.among; same = f.same }
 
@@ -55,7 +55,7 @@ module _ (p : Problem) (rows : List Row) (known : AreRows p rows) where
   pub known_low-le : (group : List ℕ) → known_low p (rows_from rows) group ≤ low p (groups_of (rows_from rows)) group
   known_low-le group = elim (cases_Bool (is_end p group)) [
     | inl e ↦ rw e (omega arith)
-    | inr e ↦ rw e (elim (cases_row (row_of (rows_from rows) group)) [
+    | inr e ↦ rw e (elim (cases_row (row_for (rows_from rows) group)) [
       | inl n ↦ rw n (bound-le-low p (groups_of (rows_from rows)) group)
       | inr f ↦ rw (f.1)
           (let at = row_of-found (rows_from rows) group f.0 f.1 in
@@ -68,7 +68,7 @@ module _ (p : Problem) (rows : List Row) (known : AreRows p rows) where
   pub bound-le-known_low : (group : List ℕ) → bound p group ≤ known_low p (rows_from rows) group
   bound-le-known_low group = elim (cases_Bool (is_end p group)) [
     | inl e ↦ (let b = bound-end p group e in rw e (omega arith))
-    | inr e ↦ rw e (elim (cases_row (row_of (rows_from rows) group)) [
+    | inr e ↦ rw e (elim (cases_row (row_for (rows_from rows) group)) [
       | inl n ↦ rw n (omega arith)
       | inr f ↦ rw (f.1) (omega arith)
     ])

@@ -6,7 +6,7 @@ use Rattle.std.proofs.lemmas.Bool.{cases_Bool}
 use Rattle.seq_theory.specs.Problem.{Problem, IsWithin, is_end, splitting, pass_part, fail_part}
 use Rattle.seq_theory.specs.Bound.{bound, step_sum}
 use Rattle.seq_theory.specs.Graph.{part, IsWanted}
-use Rattle.seq_theory.specs.Rows.{no_value, groups_of, row_of, known_low, known_up}
+use Rattle.seq_theory.specs.Rows.{no_value, groups_of, row_for, known_low, known_up}
 use Rattle.seq_theory.proofs.GreedyLaws.{bound-le-least}
 use Rattle.seq_theory.proofs.GroupLaws.{pass_part_smaller, fail_part_smaller}
 use Rattle.seq_theory.proofs.PartsRecursion.{splitting-splits, splitting-there}
@@ -44,10 +44,10 @@ module _ (inst : Instance) (v : Numbered) (rows : List Row) (kept : List Node) (
   counted = count-read (problem_of inst) v rows kept counts known
 
   -- without a row it counts an up only where it has one goal
-  none-up : (g : List ℕ) → row_of (rows_from rows) g ≡ None → known_up (problem_of inst) (rows_from rows) g ≡ cond (is_end (problem_of inst) g) (Some 0) None
+  none-up : (g : List ℕ) → row_for (rows_from rows) g ≡ None → known_up (problem_of inst) (rows_from rows) g ≡ cond (is_end (problem_of inst) g) (Some 0) None
   none-up g none = rw none refl
 
-  none-row : (g : List ℕ) (n : ℕ) (x : Count) → HasNumber v g n → x ≡ get_or counts n x → x.place ≡ None → row_of (rows_from rows) g ≡ None
+  none-row : (g : List ℕ) (n : ℕ) (x : Count) → HasNumber v g n → x ≡ get_or counts n x → x.place ≡ None → row_for (rows_from rows) g ≡ None
   none-row g n x has read none = place-none rows g (sym (ap (λ (c : Count). c.place) (counted g n x has read)) ∙ none)
 
   pub unknown-counted : (g : List ℕ) (n : ℕ) (x : Count) → HasNumber v g n → x ≡ get_or counts n x → x.place ≡ None → x.up ≡ no_value → IsUnknown (problem_of inst) rows g

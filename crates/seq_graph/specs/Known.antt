@@ -14,7 +14,7 @@ use Rattle.seq_graph.specs.declared.node.Split.{Split}
 use Rattle.seq_graph.specs.declared.node.Waiting.{Waiting}
 use Rattle.seq_graph.specs.KeptOf.{AreTestsOf}
 use Rattle.seq_graph.specs.Numbered.{Numbered, HasNumber, AreNumbers}
-use Rattle.seq_core.specs.RowsOf.{rows_of as rows_from, place_in}
+use Rattle.seq_core.specs.RowsOf.{rows_of as rows_from, place_of_group}
 use Rattle.seq_core.specs.Settled.{value_or}
 use Rattle.seq_graph.specs.declared.graph.Count.{Count}
 use Rattle.seq_graph.specs.declared.graph.Graph.{Graph}
@@ -71,7 +71,7 @@ pub record AreKept (p : Problem) (v : Numbered) (rows : List Row) (kept : List N
 
 -- what a group counts for a low and for an up, and the place of its row
 abbrev pub count_of : Problem → List Row → List ℕ → Count
-count_of p rows group = record { low = known_low p (rows_from rows) group; up = value_or (known_up p (rows_from rows) group); place = place_in (rows_from rows) group }
+count_of p rows group = record { low = known_low p (rows_from rows) group; up = value_or (known_up p (rows_from rows) group); place = place_of_group (rows_from rows) group }
 
 -- the rows are sound, the numbers and what is kept are right, and beside each number stands what its group counts
 pub record AreKnown (p : Problem) (v : Numbered) (rows : List Row) (kept : List Node) (counts : List Count) : Type 0 where

@@ -1,11 +1,11 @@
 //! The greedy strategy: in each group the splitting test of least sum over the bounds of its parts, the
 //! lowest of these. It is right, so what it costs is an upper bound of the least cost.
 ghost use Rattle.std.specs.Prelude.{◌≡◌, ◌≤◌, false, IfOk, vec_len};
-ghost use Rattle.seq_theory.specs.Problem.{IsWithin, is_end, weight_of as weight_sum};
+ghost use Rattle.seq_theory.specs.Problem.{is_end, weight_of as weight_sum};
 ghost use Rattle.seq_theory.specs.Tree.{Solves, tree_cost};
 ghost use Rattle.seq_theory.specs.Greedy.{greedy_test, greedy_cost as cost_of_greedy, greedy as tree_of_greedy};
 ghost use Rattle.seq_inst.specs.Members.{members};
-ghost use Rattle.seq_inst.specs.Instances.{problem_of};
+ghost use Rattle.seq_inst.specs.Instances.{problem_of, IsGroupOf};
 ghost use Rattle.seq_inst.specs.Trees.{tree_of};
 ghost use Rattle.seq_inst.specs.Shapes.{height, leaf_count, AsksSplitting};
 ghost use Rattle.seq_huff.specs.Bounds.{IsAtLeastLeast, greatest_cost};
@@ -36,7 +36,7 @@ fn choose(earlier: Option<Chosen>, test: u32, sum: u64) -> Chosen
 
 /// The splitting test of least sum over the bounds of its parts, the lowest of these.
 fn greedy_choice(scratch: &mut Scratch, inst: &Instance, group: &Group, weight: u64) -> u32
-    requires within { IsWithin (problem_of inst.now) (members group.now) }
+    requires within { IsGroupOf inst.now group.now }
     requires weight { weight ≡ weight_sum (problem_of inst.now) (members group.now) }
     requires more { is_end (problem_of inst.now) (members group.now) ≡ false }
     ensures { result ≡ greedy_test (problem_of inst.now) (members group.now) }
@@ -57,7 +57,7 @@ fn greedy_choice(scratch: &mut Scratch, inst: &Instance, group: &Group, weight: 
 
 /// What the greedy strategy costs over the group.
 pub fn greedy_cost(scratch: &mut Scratch, inst: &Instance, group: &Group) -> u64
-    requires { IsWithin (problem_of inst.now) (members group.now) }
+    requires { IsGroupOf inst.now group.now }
     ensures value { result ≡ cost_of_greedy (problem_of inst.now) (members group.now) }
     ensures high { IsAtLeastLeast (problem_of inst.now) (members group.now) result }
     ensures fits { result ≤ greatest_cost }
@@ -81,7 +81,7 @@ pub fn greedy(
     inst: &Instance,
     group: &Group,
 ) -> Result<Strategy, AllocError>
-    requires { IsWithin (problem_of inst.now) (members group.now) }
+    requires { IsGroupOf inst.now group.now }
     ensures value { IfOk result (λ s. tree_of s ≡ tree_of_greedy (problem_of inst.now) (members group.now)) }
     ensures right { IfOk result (λ s. Solves (problem_of inst.now) (tree_of s) (members group.now)) }
     ensures cost { IfOk result (λ s. tree_cost (problem_of inst.now) (tree_of s) (members group.now) ≡ cost_of_greedy (problem_of inst.now) (members group.now)) }
