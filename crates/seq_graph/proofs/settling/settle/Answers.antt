@@ -12,7 +12,8 @@ use Rattle.seq_graph.proofs.settling.settle.Goals as goal
 pub loop-turn-init : goal.loop-turn-init
 loop-turn-init c = record {
   known = c.requires.known;
-  settling = settling-none c.args.inst.now c.args.graph.now.rows.items c.in_ok-order.order.items c.requires.known.rows_are;
+  sound = c.requires.sound;
+  settling = settling-none c.args.inst.now c.args.graph.now.rows.items c.in_ok-order.order.items c.requires.sound;
 }
 
 pub settle_row-requires-clause-place : goal.settle_row-requires-clause-place
@@ -49,6 +50,7 @@ loop-turn-preserved c =
     let at : c.index.result.now ≡ slice_index order turn = get_or_read order turn c.index.result.now lt c.index.ensures 0 in
     record {
       known = c.in_ok-settle_row.ensures.known;
+      sound = c.in_ok-settle_row.ensures.sound;
       settling = settled-turn c.args.inst.now rows now order turn c.loop-turn.invariant.settling c.settle_row.new.graph.rows.items by lt
           (c.in_ok-settle_row.ensures.rows ∙ ap (λ k. set now k (settled_row p (groups_in now) (row_at now k))) at);
     }
