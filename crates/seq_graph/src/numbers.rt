@@ -19,7 +19,7 @@ ghost use Rattle.seq_graph.specs.Numbered.{capacity, HasNumber, HasGreedy, IsGre
 use crate::greedy::{Estimates, Greedy, estimates_of};
 use indexmap::IndexMap;
 use seq_huff::{Order, Scratch, ordered_bound};
-use seq_inst::{Group, Instance, group_stands, is_leaf};
+use seq_inst::{Group, Instance, group_stands, is_leaf, same_words_hold};
 use std::alloc::{AllocError, Global};
 use std::marker::Model;
 
@@ -145,6 +145,7 @@ impl Numbers {
         ensures none { IfNone result (is_entered self.now.groups (members group.now) ≡ false) }
     {
         group_stands(group);
+        same_words_hold();
         match self.bounds.get_index_of(&group.0) {
             Some(index) => Some(index as u32),
             None => None,

@@ -7,16 +7,15 @@
 //! low and up are equal is settled as it is: what the rows' groups give lies between the two.
 ghost use Rattle.std.specs.Prelude.{◌≡◌, ◌<◌, length, slice_set, IfOk};
 ghost use Rattle.seq_inst.specs.Instances.{problem_of};
-ghost use Rattle.seq_core.specs.Settled.{groups_in, size_at, settled_row, settled_rows};
+ghost use Rattle.seq_core.specs.Settled.{groups_in, size_at, settled_row, settled_rows, AreSettledBelow};
 ghost use Rattle.seq_graph.specs.Known.{IsKnown, AreSound, row_at};
-ghost use Rattle.seq_graph.specs.Settling.{AreSettledBelow};
 
 use crate::bounds::bounds_by;
 use crate::choice::least_test;
 use crate::events::note;
 use crate::graph::Graph;
 use crate::look::look_at_all;
-use seq_core::smallest_first;
+use seq_core::{smallest_first, turns_settle};
 use seq_inst::Instance;
 use std::alloc::{AllocError, Global};
 
@@ -30,6 +29,7 @@ fn settle_row(inst: &Instance, graph: &mut Graph, place: usize) -> Result<(), Al
     ensures rows { IfOk result (λ _. graph.new.rows.items ≡ slice_set graph.old.rows.items place (settled_row (problem_of inst.now) (groups_in graph.old.rows.items) (row_at graph.old.rows.items place))) }
     ensures sound { IfOk result (λ _. AreSound (problem_of inst.now) graph.new.rows.items) }
 {
+    turns_settle();
     let row = graph.rows[place];
     if row.low == row.up {
         return Ok(());
@@ -48,6 +48,7 @@ pub fn settle(alloc: Global, inst: &Instance, graph: &mut Graph) -> Result<(), A
     ensures known { IfOk result (λ _. IsKnown (problem_of inst.now) graph.new) }
     ensures rows { IfOk result (λ _. graph.new.rows.items ≡ settled_rows (problem_of inst.now) graph.old.rows.items) }
 {
+    turns_settle();
     let order = smallest_first(alloc, graph.rows.as_slice())?;
     for turn in 0..order.len() {
         settle_row(inst, graph, order[turn] as usize)?;

@@ -5,9 +5,8 @@ use Rattle.seq_theory.specs.Rows.{most_low}
 use Rattle.seq_inst.specs.Members.{members}
 use Rattle.seq_inst.specs.Instances.{problem_of}
 use Rattle.seq_core.specs.RowsOf.{rows_of as rows_from}
-use Rattle.seq_core.specs.Settled.{groups_in, size_at, settled_row}
+use Rattle.seq_core.specs.Settled.{groups_in, size_at, settled_row, AreSettledBelow}
 use Rattle.seq_graph.specs.Known.{AreSound, no_row, row_at, heard}
-use Rattle.seq_graph.specs.Settling.{AreSettledBelow}
 use Rattle.seq_graph.proofs.SettleLaws.{tightened-settled, closed-set}
 use Rattle.seq_graph.proofs.settling.settle_row.Goals as goal
 
@@ -30,8 +29,8 @@ returns-clause-rows c =
     let long = ap length same in
     let there = c.requires.place in
     let below = subst (λ l. AreSettledBelow p l (size_at l place)) (sym same) c.requires.below in
-    let sound = subst (AreSound p) (sym same) c.requires.sound in
-    let row = tightened-settled c.args.inst.now s.numbers s.rows.items s.nodes.items s.counts.items c.in_ok-look_at_all.ensures.known place (omega arith) sound below c.in_ok-look_at_all.ensures.valued in
+    let turn = c.turns_settle.ensures.turn c.args.inst.now (length s.rows.items) s.rows.items place (subst (AreSound p) (sym same) c.requires.sound) (omega arith) below in
+    let row = tightened-settled c.args.inst.now s.numbers s.rows.items s.nodes.items s.counts.items c.in_ok-look_at_all.ensures.known place (omega arith) turn c.in_ok-look_at_all.ensures.valued in
     let rows = s.rows.items in
     let r = row_at rows place in
     let b = c.bounds_by-bounds.result in
