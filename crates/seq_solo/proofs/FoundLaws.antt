@@ -65,6 +65,14 @@ goes-on p limit old new w sound m =
 pub sound-more : (p : Problem) (limit : ℕ) (rows : List Row) → AreSound p rows → length rows ≤ limit → IsSound p limit (rows_from rows)
 sound-more p limit rows s le = let few = s.few in record { few = omega arith; distinct = s.distinct; real = s.real; lows = s.lows; ups = s.ups }
 
+-- and under their own number
+pub sound-long : (p : Problem) (limit : ℕ) (rows : List Row) → IsSound p limit (rows_from rows) → AreSound p rows
+sound-long p limit rows s = record { few = (let l = length-from rows in omega arith); distinct = s.distinct; real = s.real; lows = s.lows; ups = s.ups }
+  where
+    length-from : (l : List Row) → length (rows_from l) ≡ length l
+    length-from [] = refl
+    length-from (r ∷ rest) = ap suc (length-from rest)
+
 pub walking-sound : (p : Problem) (limit : ℕ) (rows : List Row) → IsWalking p limit rows → IsSound p limit (rows_from rows)
 walking-sound p limit rows w = sound-more p limit rows w.sound w.few
 
