@@ -22,6 +22,7 @@ mod greedy;
 mod laws;
 mod listing;
 mod look;
+mod memo;
 mod node;
 mod numbers;
 mod settling;

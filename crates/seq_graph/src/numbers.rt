@@ -17,8 +17,9 @@ ghost use Rattle.seq_graph.specs.GreedyChoice.{AreEstimates};
 ghost use Rattle.seq_graph.specs.Numbered.{capacity, HasNumber, HasGreedy, IsGreedyOf, AreNumbers, KeepsNumbers};
 
 use crate::greedy::{Estimates, Greedy, estimates_of};
+use crate::memo::BoundMemo;
 use indexmap::IndexMap;
-use seq_huff::{Order, Scratch, ordered_bound};
+use seq_huff::Scratch;
 use seq_inst::{Group, Instance, group_stands, is_leaf};
 use std::alloc::{AllocError, Global};
 use std::marker::Model;
@@ -26,8 +27,8 @@ use std::marker::Model;
 /// Groups by number.
 #[derive(Drop)]
 pub struct Numbers {
-    /// The weights and the costs in order, so that no bound sorts them.
-    order: Order,
+    /// By which bounds are worked out, and the latest of them.
+    memo: BoundMemo,
     /// The bound of each group by its words, in the order of numbers.
     bounds: IndexMap<[u64; 8], u64>,
     /// Greedy's test and cost over each group, by number.
@@ -44,7 +45,7 @@ impl Model for Numbers {
 
     ghost Value = { Numbered };
 
-    ghost view = { λ m. record { order = m.order; groups = map classes_of (keys m.bounds); bounds = values m.bounds; greedy = m.greedy.items; room = m.room } };
+    ghost view = { λ m. record { memo = m.memo; groups = map classes_of (keys m.bounds); bounds = values m.bounds; greedy = m.greedy.items; room = m.room } };
 
     ghost invariant = { λ m. record {
       words : AreWords (keys m.bounds);
@@ -61,9 +62,9 @@ impl Numbers {
         ensures numbers { IfOk result (AreNumbers (problem_of inst.now)) }
         ensures none { IfOk result (λ v. v.groups ≡ []) }
     {
-        let order = Order::of(alloc, inst)?;
+        let memo = BoundMemo::new(alloc, inst)?;
         Ok(Numbers {
-            order,
+            memo,
             bounds: IndexMap::new(alloc),
             greedy: Vec::new(alloc),
             room: 0,
@@ -202,7 +203,7 @@ impl Numbers {
         ensures capacity { capacity self.new ≡ capacity self.old }
         ensures one { self.old.room ≤ self.new.room + 1 }
     {
-        let bound = self.fresh_bound(scratch, inst, group);
+        let bound = self.memo_bound(scratch, inst, group);
         self.add(group, bound)
     }
 
@@ -265,14 +266,16 @@ impl Numbers {
         Some(self.next_number(scratch, inst, group))
     }
 
-    /// The bound of the group, worked out afresh.
-    fn fresh_bound(&self, scratch: &mut Scratch, inst: &Instance, group: &Group) -> u64
-        requires numbers { AreNumbers (problem_of inst.now) self.now }
+    /// The bound of the group, by the memo. No number changes.
+    fn memo_bound(&mut self, scratch: &mut Scratch, inst: &Instance, group: &Group) -> u64
+        requires numbers { AreNumbers (problem_of inst.now) self.old }
         requires within { IsWithin (problem_of inst.now) (members group.now) }
+        ensures numbers { AreNumbers (problem_of inst.now) self.new }
+        ensures same { self.new ≡ record self.old { memo = self.new.memo } }
         ensures value { result ≡ bound_by (problem_of inst.now) (members group.now) }
         ensures fits { result ≤ greatest_cost }
     {
-        ordered_bound(scratch, &self.order, inst, group)
+        self.memo.bound_of(scratch, inst, group)
     }
 
     /// The estimates of the tests that split the group, which has two goals or more.
@@ -282,11 +285,10 @@ impl Numbers {
         requires more { is_end (problem_of inst.now) (members group.now) ≡ false }
         ensures { AreEstimates (problem_of inst.now) (members group.now) result }
     {
-        estimates_of(&self.order, inst, group)
+        estimates_of(&self.memo.order, inst, group)
     }
 
-    /// The bound of the group. A group of two goals or more gets a number where there is room; one of
-    /// one goal needs none, as its bound is 0.
+    /// The bound of the group: what is kept where it has a number, else by the memo. It gets no number.
     pub(crate) fn bound_within(
         &mut self,
         scratch: &mut Scratch,
@@ -304,9 +306,9 @@ impl Numbers {
         if is_leaf(inst, group) {
             return 0;
         }
-        match self.number_within(scratch, inst, group) {
+        match self.find(group) {
             Some(number) => self.bound_at(number),
-            None => self.fresh_bound(scratch, inst, group),
+            None => self.memo_bound(scratch, inst, group),
         }
     }
 }
