@@ -17,7 +17,6 @@ ghost use Rattle.seq_finish.specs.Outcomes.{IsSettled};
 use crate::places::value_of;
 use seq_core::Places;
 use seq_graph::Numbers;
-use seq_huff::Scratch;
 use seq_inst::{
     Answer, Group, Instance, Row, Strategy, ask_first, is_leaf, part, splits, weight_of,
 };
@@ -77,7 +76,6 @@ fn value_test(inst: &Instance, rows: &[Row], places: &Places, group: &Group, val
 /// The strategy of a group that has a value.
 pub(crate) fn strategy_of(
     alloc: Global,
-    scratch: &mut Scratch,
     inst: &Instance,
     numbers: &mut Numbers,
     rows: &[Row],
@@ -99,13 +97,13 @@ pub(crate) fn strategy_of(
         Some(value) => value,
         None => unreachable!(),
     };
-    if numbers.greedy_of(scratch, inst, group) == value {
-        return numbers.greedy_tree(alloc, scratch, inst, group);
+    if numbers.greedy_of(inst, group) == value {
+        return numbers.greedy_tree(alloc, inst, group);
     }
     let test = value_test(inst, rows, places, group, value);
     let pass_part = part(inst, group, test, Answer::Pass);
-    let pass = strategy_of(alloc, scratch, inst, numbers, rows, places, &pass_part)?;
+    let pass = strategy_of(alloc, inst, numbers, rows, places, &pass_part)?;
     let fail_part = part(inst, group, test, Answer::Fail);
-    let fail = strategy_of(alloc, scratch, inst, numbers, rows, places, &fail_part)?;
+    let fail = strategy_of(alloc, inst, numbers, rows, places, &fail_part)?;
     ask_first(alloc, test, pass, fail)
 }

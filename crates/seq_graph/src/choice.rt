@@ -20,7 +20,6 @@ use crate::graph::Graph;
 use crate::node::Split;
 use crate::sums::sum_of;
 use crate::waiting::{evaluate, next_waiting};
-use seq_huff::Scratch;
 use seq_inst::Instance;
 use std::alloc::AllocError;
 
@@ -73,7 +72,6 @@ fn least_evaluated(inst: &Instance, graph: &Graph, place: usize) -> Option<Chose
 
 /// The splitting test of least sum, the lowest of these. It is evaluated.
 pub(crate) fn least_test(
-    scratch: &mut Scratch,
     inst: &Instance,
     graph: &mut Graph,
     place: usize,
@@ -89,7 +87,7 @@ pub(crate) fn least_test(
 {
     let mut chosen = least_evaluated(inst, graph, place);
     while let Some(at) = next_waiting(graph.nodes[place].waiting.as_slice(), chosen) {
-        let split = evaluate(scratch, inst, graph, place, at)?;
+        let split = evaluate(inst, graph, place, at)?;
         let sum = low_sum(inst, graph, place, split);
         chosen = Some(choose(chosen, split, sum));
     }

@@ -17,7 +17,6 @@ use crate::counts::count_new;
 use crate::graph::{Count, Graph};
 use crate::node::Node;
 use crate::sums::{leave_out, leave_out_waiting};
-use seq_huff::Scratch;
 use seq_inst::{Group, Instance, Row};
 use std::alloc::{AllocError, Global};
 
@@ -87,19 +86,14 @@ fn prune(inst: &Instance, graph: &mut Graph, place: usize)
 }
 
 /// Raises and caps a group by what is known of its parts, and leaves out tests that are of no more use.
-pub fn back_up(
-    scratch: &mut Scratch,
-    inst: &Instance,
-    graph: &mut Graph,
-    place: usize,
-) -> Result<(), AllocError>
+pub fn back_up(inst: &Instance, graph: &mut Graph, place: usize) -> Result<(), AllocError>
     requires known { IsKnown (problem_of inst.now) graph.old }
     requires place { place < length graph.old.rows.items }
     ensures known { IfOk result (λ _. IsKnown (problem_of inst.now) graph.new) }
     ensures narrows { IfOk result (λ _. Narrows graph.old.rows.items graph.new.rows.items) }
     ensures closes { IfOk result (λ _. ClosesBelow (problem_of inst.now) graph.old.rows.items (members (group_at graph.old.rows.items place)) → IsClosedAt graph.new.rows.items place) }
 {
-    let chosen = least_test(scratch, inst, graph, place)?;
+    let chosen = least_test(inst, graph, place)?;
     revise(inst, graph, place, chosen);
     prune(inst, graph, place);
     Ok(())
@@ -108,7 +102,6 @@ pub fn back_up(
 /// Gives a group a row with what greedy costs for an up, and what is kept of it.
 pub(crate) fn add(
     alloc: Global,
-    scratch: &mut Scratch,
     inst: &Instance,
     graph: &mut Graph,
     group: &Group,
@@ -123,7 +116,6 @@ pub(crate) fn add(
     let place = graph.rows.len();
     graph.numbers.reserve(ROOM_FOR_GREEDY)?;
     let kept = Node::of(
-        scratch,
         &mut graph.numbers,
         inst,
         group,
@@ -160,7 +152,6 @@ fn give_back(inst: &Instance, graph: &mut Graph, place: usize)
 /// Enters a group, and raises and caps it.
 pub fn enter(
     alloc: Global,
-    scratch: &mut Scratch,
     inst: &Instance,
     graph: &mut Graph,
     group: &Group,
@@ -173,8 +164,8 @@ pub fn enter(
     ensures narrows { IfOk result (λ _. Narrows (graph.old.rows.items ++ record { group = group.now; low = 0; up = no_value } ∷ []) graph.new.rows.items) }
 {
     let place = graph.rows.len();
-    add(alloc, scratch, inst, graph, group)?;
-    back_up(scratch, inst, graph, place)?;
+    add(alloc, inst, graph, group)?;
+    back_up(inst, graph, place)?;
     give_back(inst, graph, place);
     Ok(())
 }

@@ -11,18 +11,12 @@ ghost use Rattle.seq_graph.specs.Listed.{listed};
 
 use crate::events::add;
 use crate::graph::Graph;
-use seq_huff::Scratch;
 use seq_inst::{Instance, Row};
 use std::alloc::{AllocError, Global};
 
 impl Graph {
     /// A graph of these rows' groups, in their order. Of each is known what is known when it is entered.
-    pub fn of_rows(
-        alloc: Global,
-        scratch: &mut Scratch,
-        inst: &Instance,
-        rows: &[Row],
-    ) -> Result<Graph, AllocError>
+    pub fn of_rows(alloc: Global, inst: &Instance, rows: &[Row]) -> Result<Graph, AllocError>
         requires real { All (λ r. IsReal (problem_of inst.now) (members r.group)) rows.now }
         requires distinct { AreDistinct (groups_in rows.now) }
         ensures known { IfOk result (IsKnown (problem_of inst.now)) }
@@ -33,7 +27,7 @@ impl Graph {
         };
         let mut graph = Graph::new(alloc, inst)?;
         for row in rows {
-            add(alloc, scratch, inst, &mut graph, &row.group)?;
+            add(alloc, inst, &mut graph, &row.group)?;
         }
         Ok(graph)
     }

@@ -25,10 +25,12 @@ pub(crate) struct Remembered {
     pub(crate) bound: u64,
 }
 
-/// The weights and the costs in order, so that no bound sorts them, and the bounds that are remembered.
+/// The weights and the costs in order, so that no bound sorts them, room for the lists of one bound, and the
+/// bounds that are remembered.
 #[derive(Drop)]
 pub(crate) struct BoundMemo {
     pub(crate) order: Order,
+    scratch: Scratch,
     pub(crate) slots: Vec<Remembered>,
 }
 
@@ -57,9 +59,14 @@ impl BoundMemo {
     {
         let order = Order::of(alloc, inst)?;
         let group = root(inst);
-        let bound = ordered_bound(&mut Scratch::new(), &order, inst, &group);
+        let mut scratch = Scratch::new();
+        let bound = ordered_bound(&mut scratch, &order, inst, &group);
         let slots = vec![in alloc; Remembered { group, bound }; slots_for(inst)]?;
-        Ok(BoundMemo { order, slots })
+        Ok(BoundMemo {
+            order,
+            scratch,
+            slots,
+        })
     }
 
     /// The slot of the group.
@@ -71,7 +78,7 @@ impl BoundMemo {
     }
 
     /// The bound of the group: the one that is remembered, or worked out and remembered from now on.
-    pub(crate) fn bound_of(&mut self, scratch: &mut Scratch, inst: &Instance, group: &Group) -> u64
+    pub(crate) fn bound_of(&mut self, inst: &Instance, group: &Group) -> u64
         requires memo { IsMemoOf (problem_of inst.now) self.old }
         requires within { IsWithin (problem_of inst.now) (members group.now) }
         ensures memo { IsMemoOf (problem_of inst.now) self.new }
@@ -83,7 +90,7 @@ impl BoundMemo {
         if remembered.group.is_same(group) {
             return remembered.bound;
         }
-        let bound = ordered_bound(scratch, &self.order, inst, group);
+        let bound = ordered_bound(&mut self.scratch, &self.order, inst, group);
         self.slots[at] = Remembered {
             group: *group,
             bound,

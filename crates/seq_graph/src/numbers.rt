@@ -19,7 +19,6 @@ ghost use Rattle.seq_graph.specs.Numbered.{capacity, HasNumber, HasGreedy, IsGre
 use crate::greedy::{Estimates, Greedy, estimates_of};
 use crate::memo::BoundMemo;
 use indexmap::IndexMap;
-use seq_huff::Scratch;
 use seq_inst::{Group, Instance, group_stands, is_leaf};
 use std::alloc::{AllocError, Global};
 use std::marker::Model;
@@ -124,13 +123,7 @@ impl Numbers {
     }
 
     /// Keeps greedy's test and cost over the group, where it has a number or there is room for one.
-    pub(crate) fn keep_greedy(
-        &mut self,
-        scratch: &mut Scratch,
-        inst: &Instance,
-        group: &Group,
-        greedy: Greedy,
-    )
+    pub(crate) fn keep_greedy(&mut self, inst: &Instance, group: &Group, greedy: Greedy)
         requires numbers { AreNumbers (problem_of inst.now) self.old }
         requires within { IsWithin (problem_of inst.now) (members group.now) }
         requires greedy { IsGreedyOf (problem_of inst.now) (members group.now) greedy }
@@ -138,7 +131,7 @@ impl Numbers {
         ensures keeps { KeepsNumbers self.old self.new }
         ensures capacity { capacity self.new ≡ capacity self.old }
     {
-        if let Some(number) = self.number_within(scratch, inst, group) {
+        if let Some(number) = self.number_within(inst, group) {
             self.write_greedy(number, greedy);
         }
     }
@@ -192,7 +185,7 @@ impl Numbers {
     }
 
     /// Gives the group, which has no number, the next one, with its bound.
-    fn next_number(&mut self, scratch: &mut Scratch, inst: &Instance, group: &Group) -> u32
+    fn next_number(&mut self, inst: &Instance, group: &Group) -> u32
         requires numbers { AreNumbers (problem_of inst.now) self.old }
         requires within { IsWithin (problem_of inst.now) (members group.now) }
         requires absent { is_entered self.old.groups (members group.now) ≡ false }
@@ -203,18 +196,13 @@ impl Numbers {
         ensures capacity { capacity self.new ≡ capacity self.old }
         ensures one { self.old.room ≤ self.new.room + 1 }
     {
-        let bound = self.memo_bound(scratch, inst, group);
+        let bound = self.memo_bound(inst, group);
         self.add(group, bound)
     }
 
     /// The number of the group. One that has none gets the next one, with its bound. It takes memory only
     /// where the group has no number and no room is left.
-    pub fn number_of(
-        &mut self,
-        scratch: &mut Scratch,
-        inst: &Instance,
-        group: &Group,
-    ) -> Result<u32, AllocError>
+    pub fn number_of(&mut self, inst: &Instance, group: &Group) -> Result<u32, AllocError>
         requires numbers { AreNumbers (problem_of inst.now) self.old }
         requires within { IsWithin (problem_of inst.now) (members group.now) }
         ensures numbers { AreNumbers (problem_of inst.now) self.new }
@@ -232,17 +220,12 @@ impl Numbers {
             return Ok(number);
         }
         self.reserve(1)?;
-        Ok(self.next_number(scratch, inst, group))
+        Ok(self.next_number(inst, group))
     }
 
     /// The number of the group. One that has none gets the next one, with its bound, while there is room.
     /// It takes no memory.
-    pub fn number_within(
-        &mut self,
-        scratch: &mut Scratch,
-        inst: &Instance,
-        group: &Group,
-    ) -> Option<u32>
+    pub fn number_within(&mut self, inst: &Instance, group: &Group) -> Option<u32>
         requires numbers { AreNumbers (problem_of inst.now) self.old }
         requires within { IsWithin (problem_of inst.now) (members group.now) }
         ensures numbers { AreNumbers (problem_of inst.now) self.new }
@@ -263,11 +246,11 @@ impl Numbers {
         if self.room == 0 {
             return None;
         }
-        Some(self.next_number(scratch, inst, group))
+        Some(self.next_number(inst, group))
     }
 
     /// The bound of the group, by the memo. No number changes.
-    fn memo_bound(&mut self, scratch: &mut Scratch, inst: &Instance, group: &Group) -> u64
+    fn memo_bound(&mut self, inst: &Instance, group: &Group) -> u64
         requires numbers { AreNumbers (problem_of inst.now) self.old }
         requires within { IsWithin (problem_of inst.now) (members group.now) }
         ensures numbers { AreNumbers (problem_of inst.now) self.new }
@@ -275,7 +258,7 @@ impl Numbers {
         ensures value { result ≡ bound_by (problem_of inst.now) (members group.now) }
         ensures fits { result ≤ greatest_cost }
     {
-        self.memo.bound_of(scratch, inst, group)
+        self.memo.bound_of(inst, group)
     }
 
     /// The estimates of the tests that split the group, which has two goals or more.
@@ -289,12 +272,7 @@ impl Numbers {
     }
 
     /// The bound of the group: what is kept where it has a number, else by the memo. It gets no number.
-    pub(crate) fn bound_within(
-        &mut self,
-        scratch: &mut Scratch,
-        inst: &Instance,
-        group: &Group,
-    ) -> u64
+    pub(crate) fn bound_within(&mut self, inst: &Instance, group: &Group) -> u64
         requires numbers { AreNumbers (problem_of inst.now) self.old }
         requires within { IsWithin (problem_of inst.now) (members group.now) }
         ensures numbers { AreNumbers (problem_of inst.now) self.new }
@@ -308,7 +286,7 @@ impl Numbers {
         }
         match self.find(group) {
             Some(number) => self.bound_at(number),
-            None => self.memo_bound(scratch, inst, group),
+            None => self.memo_bound(inst, group),
         }
     }
 }

@@ -15,43 +15,32 @@ use crate::events::revise;
 use crate::graph::Graph;
 use crate::look::look_at_all;
 use seq_core::smallest_first;
-use seq_huff::Scratch;
 use seq_inst::Instance;
 use std::alloc::{AllocError, Global};
 
 /// Gives the row at a place its low and its value, where those of all smaller groups are settled.
-fn settle_row(
-    scratch: &mut Scratch,
-    inst: &Instance,
-    graph: &mut Graph,
-    place: usize,
-) -> Result<(), AllocError>
+fn settle_row(inst: &Instance, graph: &mut Graph, place: usize) -> Result<(), AllocError>
     requires known { IsKnown (problem_of inst.now) graph.old }
     requires place { place < length graph.old.rows.items }
     requires below { AreSettledBelow (problem_of inst.now) graph.old.rows.items (size_at graph.old.rows.items place) }
     ensures known { IfOk result (λ _. IsKnown (problem_of inst.now) graph.new) }
     ensures rows { IfOk result (λ _. graph.new.rows.items ≡ slice_set graph.old.rows.items place (settled_row (problem_of inst.now) (groups_in graph.old.rows.items) (row_at graph.old.rows.items place))) }
 {
-    let chosen = least_test(scratch, inst, graph, place)?;
-    look_at_all(scratch, inst, graph, place)?;
+    let chosen = least_test(inst, graph, place)?;
+    look_at_all(inst, graph, place)?;
     revise(inst, graph, place, chosen);
     Ok(())
 }
 
 /// Gives each row the low and the value that the rows' groups give it together.
-pub fn settle(
-    alloc: Global,
-    scratch: &mut Scratch,
-    inst: &Instance,
-    graph: &mut Graph,
-) -> Result<(), AllocError>
+pub fn settle(alloc: Global, inst: &Instance, graph: &mut Graph) -> Result<(), AllocError>
     requires known { IsKnown (problem_of inst.now) graph.old }
     ensures known { IfOk result (λ _. IsKnown (problem_of inst.now) graph.new) }
     ensures rows { IfOk result (λ _. graph.new.rows.items ≡ settled_rows (problem_of inst.now) graph.old.rows.items) }
 {
     let order = smallest_first(alloc, graph.rows.as_slice())?;
     for turn in 0..order.len() {
-        settle_row(scratch, inst, graph, order[turn] as usize)?;
+        settle_row(inst, graph, order[turn] as usize)?;
     }
     Ok(())
 }

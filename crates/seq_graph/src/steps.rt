@@ -11,7 +11,6 @@ ghost use Rattle.seq_graph.specs.Parts.{IsKnowledge};
 
 use crate::choice::least_test;
 use crate::graph::Graph;
-use seq_huff::Scratch;
 use seq_inst::{Group, Instance};
 use std::alloc::AllocError;
 
@@ -84,19 +83,14 @@ fn step_of(pass: Group, pass_known: Knowledge, fail: Group, fail_known: Knowledg
 }
 
 /// What the walk does at a group, by its test of least sum.
-pub fn next_step(
-    scratch: &mut Scratch,
-    inst: &Instance,
-    graph: &mut Graph,
-    place: usize,
-) -> Result<Step, AllocError>
+pub fn next_step(inst: &Instance, graph: &mut Graph, place: usize) -> Result<Step, AllocError>
     requires known { IsKnown (problem_of inst.now) graph.old }
     requires place { place < length graph.old.rows.items }
     ensures known { IfOk result (λ _. IsKnown (problem_of inst.now) graph.new) }
     ensures rows { IfOk result (λ _. graph.new.rows.items ≡ graph.old.rows.items) }
     ensures step { IfOk result (IsStep (problem_of inst.now) graph.old.rows.items (members (group_at graph.old.rows.items place))) }
 {
-    let split = least_test(scratch, inst, graph, place)?.split;
+    let split = least_test(inst, graph, place)?.split;
     let pass_part = graph.numbers.group_at(split.pass);
     let fail_part = graph.numbers.group_at(split.fail);
     let pass_known = knowledge_of(inst, graph, split.pass);

@@ -6,7 +6,6 @@ ghost use Rattle.seq_graph.specs.Known.{IsKnown, row_at};
 ghost use Rattle.seq_graph.specs.Walks.{HasTurned};
 
 use seq_graph::{Graph, Step, back_up, enter, next_step, turns_move};
-use seq_huff::Scratch;
 use seq_inst::{Group, Instance};
 use std::alloc::{AllocError, Global};
 
@@ -14,7 +13,6 @@ use std::alloc::{AllocError, Global};
 /// nothing has changed.
 pub(crate) fn turn(
     alloc: Global,
-    scratch: &mut Scratch,
     inst: &Instance,
     limit: u32,
     graph: &mut Graph,
@@ -29,24 +27,24 @@ pub(crate) fn turn(
     ensures turned { IfOk result (HasTurned (problem_of inst.now) limit graph.old.rows.items graph.new.rows.items) }
 {
     turns_move();
-    match next_step(scratch, inst, graph, place)? {
+    match next_step(inst, graph, place)? {
         Step::Enter { group } => {
             if graph.rows.len() >= limit as usize {
                 return Ok(Some(group));
             }
-            enter(alloc, scratch, inst, graph, &group)?;
-            back_up(scratch, inst, graph, place)?;
+            enter(alloc, inst, graph, &group)?;
+            back_up(inst, graph, place)?;
             Ok(None)
         }
         Step::Down { place: next } => {
-            if let Some(group) = turn(alloc, scratch, inst, limit, graph, next)? {
+            if let Some(group) = turn(alloc, inst, limit, graph, next)? {
                 return Ok(Some(group));
             }
-            back_up(scratch, inst, graph, place)?;
+            back_up(inst, graph, place)?;
             Ok(None)
         }
         Step::Close => {
-            back_up(scratch, inst, graph, place)?;
+            back_up(inst, graph, place)?;
             Ok(None)
         }
     }
