@@ -1,6 +1,6 @@
 -- A change of one row that keeps its group keeps the places and the fitness of the rows; in the theory's
 -- rows it is the theory's change.
-use Rattle.std.proofs.Common.{◌≡◌, ℕ, zero, suc, ◌<◌, max, min, List, [], ◌∷◌, length, get_or, set, refl, sym, ap, arith, inl, inr, subst}
+use Rattle.std.proofs.Common.{◌≡◌, ℕ, zero, suc, ◌<◌, max, min, List, [], ◌∷◌, length, get_or, set, refl, ap, arith, inl, inr, subst}
 use Rattle.seq_theory.specs.Problem.{Problem}
 use Rattle.seq_theory.specs.Rows.{Row as TheoryRow, change_at}
 use Rattle.seq_inst.specs.declared.outcome.Row.{Row}

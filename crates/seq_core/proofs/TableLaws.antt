@@ -3,7 +3,7 @@ use Rattle.std.proofs.Common.{◌≡◌, ◌⊎◌, ℕ, zero, suc, ◌+◌, ◌
 use Rattle.std.specs.Prelude.{true, false, cond, slice_get, nat_eq}
 use Rattle.std.specs.Option.{option_map}
 use Rattle.std.proofs.lemmas.Bool.{cases_Bool}
-use Rattle.seq_theory.specs.Problem.{Problem, IsWithin, is_end}
+use Rattle.seq_theory.specs.Problem.{Problem, is_end}
 use Rattle.seq_theory.specs.Bound.{bound}
 use Rattle.seq_theory.specs.Graph.{same_group, is_entered}
 use Rattle.seq_theory.specs.Rows.{groups_of, IsRow, row_of as theory_row, low_or, up_or, known_low, known_up, no_value}

@@ -13,7 +13,7 @@ ghost use Rattle.seq_core.specs.Allowed.{IsMostLow, IsLeastUp};
 
 use crate::machine::Core;
 use seq_huff::{Scratch, bound, greedy_cost};
-use seq_inst::{Answer, Group, Instance, is_leaf, part, splits, weight_of};
+use seq_inst::{Group, Instance, is_leaf, parts_of, splits, weight_of};
 
 /// The lesser of an earlier number, if there is one, and a new one.
 fn lesser_of(earlier: Option<u64>, number: u64) -> u64
@@ -76,10 +76,9 @@ impl Core {
         requires weight { weight ≡ weight_sum (problem_of inst.now) (members group.now) }
         ensures { result ≡ low_sum (problem_of inst.now) self.now.rows (members group.now) test }
     {
-        let pass_part = part(inst, group, test, Answer::Pass);
-        let pass = self.known_low(scratch, inst, &pass_part);
-        let fail_part = part(inst, group, test, Answer::Fail);
-        let fail = self.known_low(scratch, inst, &fail_part);
+        let parts = parts_of(inst, group, test);
+        let pass = self.known_low(scratch, inst, &parts.pass);
+        let fail = self.known_low(scratch, inst, &parts.fail);
         u64::from(inst.costs[test as usize]) * weight + (pass + fail)
     }
 
@@ -91,10 +90,9 @@ impl Core {
         requires weight { weight ≡ weight_sum (problem_of inst.now) (members group.now) }
         ensures { result ≡ capped_value (up_sum (problem_of inst.now) self.now.rows (members group.now) test) }
     {
-        let pass_part = part(inst, group, test, Answer::Pass);
-        let pass = self.known_up(inst, &pass_part)?;
-        let fail_part = part(inst, group, test, Answer::Fail);
-        let fail = self.known_up(inst, &fail_part)?;
+        let parts = parts_of(inst, group, test);
+        let pass = self.known_up(inst, &parts.pass)?;
+        let fail = self.known_up(inst, &parts.fail)?;
         let first = u64::from(inst.costs[test as usize]) * weight;
         Some(first.saturating_add(pass).saturating_add(fail))
     }

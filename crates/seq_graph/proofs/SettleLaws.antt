@@ -26,39 +26,28 @@ use Rattle.seq_graph.specs.declared.node.Waiting.{Waiting}
 use Rattle.seq_graph.specs.KeptOf.{Waits}
 use Rattle.seq_graph.specs.Numbered.{Numbered}
 use Rattle.seq_core.specs.RowsOf.{rows_of as rows_from}
-use Rattle.seq_core.specs.Settled.{groups_in, value_or, size_at, settled_row, settled_rows, AreSettling, IsAmongFirst}
+use Rattle.seq_core.specs.Settled.{groups_in, value_or, size_at, settled_row, IsTurnOf}
 use Rattle.seq_graph.proofs.KeptLaws.{all-waits}
-use Rattle.seq_core.proofs.SettleLaws.{known_low-settled, known_up-settled, least_up-settled, raised-settled, capped-settled, sound-settling, same-groups, settled-more, settled-all}
-use Rattle.seq_core.proofs.SettleSteps.{HasOrder, turns-below, turns-next, turns-all}
 use Rattle.seq_graph.specs.declared.graph.Count.{Count}
 use Rattle.seq_graph.specs.Known.{AreRows, AreKnown, no_row, row_at, group_at, splits_in, splits_at, waiting_in, waiting_at}
 use Rattle.seq_graph.specs.Looks.{NoneIsValued}
-use Rattle.seq_graph.specs.Settling.{evaluated_up, tightened_row, AreSettledBelow}
+use Rattle.seq_graph.specs.Settling.{evaluated_up, tightened_row}
 use Rattle.seq_graph.proofs.KnownLaws.{row-within}
 use Rattle.seq_graph.proofs.SplitLaws.{kept-there}
 use Rattle.seq_graph.proofs.CoverLaws.{test-listed}
-
--- where the smaller rows are settled, sound rows are settling, and these are done
-settling : (inst : Instance) (rows : List Row) → AreRows (problem_of inst) rows → (size : ℕ) → AreSettledBelow (problem_of inst) rows size → AreSettling (problem_of inst) rows rows (λ k. size_at rows k < size)
-settling inst rows known size below =
-    let start = sound-settling inst (length rows) rows known.sound in
-    record { groups = start.groups; many = start.many; each = start.each; done = below }
 
 none-some : (n : ℕ) → None ≡ Some n → ⊥
 none-some n e = let bad : ⊥ = cc in bad
 
 module _ (inst : Instance) (v : Numbered) (rows : List Row) (kept : List Node) (counts : List Count) (known : AreKnown (problem_of inst) v rows kept counts) (place : ℕ) (lt : place < length rows)
-    (below : AreSettledBelow (problem_of inst) rows (size_at rows place)) where
-  as-settling : AreSettling (problem_of inst) rows rows (λ k. size_at rows k < size_at rows place)
-  as-settling = settling inst rows known.rows_are (size_at rows place) below
-
+    (turn : IsTurnOf (problem_of inst) rows place) where
   -- what a part counts for a low is no more than what it counts for an up
   low-le-up : (part : List ℕ) (u : ℕ) → length part < size_at rows place → IsWithin (problem_of inst) part → known_up (problem_of inst) (rows_from rows) part ≡ Some u → known_low (problem_of inst) (rows_from rows) part ≤ u
   low-le-up part u small within is =
       let p = problem_of inst in
-      let e = known_low-settled inst rows rows (λ k. size_at rows k < size_at rows place) as-settling (size_at rows place) (λ j there less. less) part small in
+      let e = turn.lows part small in
       let a = low-le-least p (groups_in rows) part inst.stands.weighed inst.valid.told within in
-      let b = least-le-val p (groups_in rows) part u inst.valid.told within (sym (known_up-settled inst rows rows (λ k. size_at rows k < size_at rows place) as-settling (size_at rows place) (λ j there less. less) part small) ∙ is) in
+      let b = least-le-val p (groups_in rows) part u inst.valid.told within (sym (turn.ups part small) ∙ is) in
       omega arith
 
   -- and so with a test that gives both
@@ -119,65 +108,11 @@ module _ (inst : Instance) (v : Numbered) (rows : List Row) (kept : List Node) (
       let p = problem_of inst in
       let g = members (group_at rows place) in
       let least = least_up p (rows_from rows) g in
-      let low_is = raised-settled inst rows rows (λ k. size_at rows k < size_at rows place) as-settling place lt (λ j there less. less) in
-      let up = capped-settled inst rows rows (λ k. size_at rows k < size_at rows place) as-settling place lt (λ j there less. less) in
-      let value = ap value_or (least_up-settled inst rows rows (λ k. size_at rows k < size_at rows place) as-settling place lt (λ j there less. less)) in
+      let low_is = turn.raised in
+      let up = turn.capped in
+      let value = ap value_or turn.value in
       let no_less = evaluated-least in
       let no_more = capped-most none least (least_value (greedy_cost p g) (step_value p (known_up p (rows_from rows)) g) (splitting p g)) in
       let up_is : min (row_at rows place).up (evaluated_up p rows kept place) ≡ value_or (val p (groups_in rows) g) = omega arith in
       ap (λ n. record { group = group_at rows place; low = n; up = min (row_at rows place).up (evaluated_up p rows kept place) }) low_is
       ∙ ap (λ n. record { group = group_at rows place; low = low p (groups_in rows) g; up = n }) up_is
-
--- ---- one row after another ----
-
-group-set : (rows : List Row) (k j : ℕ) (x : Row) → x.group ≡ group_at rows k → group_at (set rows k x) j ≡ group_at rows j
-group-set [] k j x e = refl
-group-set (r ∷ rest) zero zero x e = e
-group-set (r ∷ rest) zero (suc j) x e = refl
-group-set (r ∷ rest) (suc k) zero x e = refl
-group-set (r ∷ rest) (suc k) (suc j) x e = group-set rest k j x e
-
-module _ (inst : Instance) (rows now : List Row) (order : List ℕ) (n : ℕ) (s : AreSettling (problem_of inst) rows now (IsAmongFirst order n)) where
-  -- the rows as they are now have the groups that they had
-  same-entered : groups_in now ≡ groups_in rows
-  same-entered = same-groups now rows s.many (λ k lt. (s.each k lt).group)
-
-  settled-group : (k : ℕ) → k < length rows → settled_row (problem_of inst) (groups_in now) (row_at now k) ≡ settled_row (problem_of inst) (groups_in rows) (row_at rows k)
-  settled-group k lt =
-      ap (λ e. settled_row (problem_of inst) e (row_at now k)) same-entered
-      ∙ ap (λ (g : Group). record { group = g; low = low (problem_of inst) (groups_in rows) (members g); up = value_or (val (problem_of inst) (groups_in rows) (members g)) }) (s.each k lt).group
-
-  pub below-settled : HasOrder rows order → n < length order → AreSettledBelow (problem_of inst) now (size_at now (slice_index order n))
-  below-settled by lt j there less =
-      let many = s.many in
-      let long = counted-length (length rows) order by.each_once in
-      let k = slice_index order n in
-      let k_there = counted-below (length rows) order by.each_once n (omega arith) in
-      let a = ap (λ (g : Group). length (members g)) (s.each k k_there).group in
-      let b = ap (λ (g : Group). length (members g)) (s.each j (omega arith)).group in
-      let done = turns-below rows order n by lt j (omega arith) (omega arith) in
-      s.done j (omega arith) done ∙ sym (settled-group j (omega arith))
-
-  pub settled-turn : (new : List Row) → HasOrder rows order → n < length order → new ≡ set now (slice_index order n) (settled_row (problem_of inst) (groups_in now) (row_at now (slice_index order n)))
-      → AreSettling (problem_of inst) rows new (IsAmongFirst order (n + 1))
-  settled-turn new by lt is =
-      let p = problem_of inst in
-      let k = slice_index order n in
-      let many = s.many in
-      let long = counted-length (length rows) order by.each_once in
-      let there = counted-below (length rows) order by.each_once n (omega arith) in
-      let x = settled_row p (groups_in now) (row_at now k) in
-      subst (λ l. AreSettling p rows l (IsAmongFirst order (n + 1))) (sym is)
-      (settled-more p rows now (set now k x) (IsAmongFirst order n) (IsAmongFirst order (n + 1)) k s (length-set now k x)
-      (get_or-set_same now k x no_row (omega arith) ∙ settled-group k there)
-      (λ j ne. get_or-set_other now k j x no_row ne)
-      (turns-next order n))
-
-  pub settled-end : HasOrder rows order → n ≡ length order → now ≡ settled_rows (problem_of inst) rows
-  settled-end by e = settled-all (problem_of inst) rows now (IsAmongFirst order n) s (turns-all rows order n by e)
-
--- before the first turn
-pub settling-none : (inst : Instance) (rows : List Row) (order : List ℕ) → AreRows (problem_of inst) rows → AreSettling (problem_of inst) rows rows (IsAmongFirst order 0)
-settling-none inst rows order known =
-    let start = sound-settling inst (length rows) rows known.sound in
-    record { groups = start.groups; many = start.many; each = start.each; done = λ k lt d. absurd (let l = d.1 in let bad : ⊥ = omega arith in bad) }

@@ -19,7 +19,7 @@ ghost use Rattle.seq_graph.specs.Numbered.{capacity, HasNumber, HasGreedy, IsGre
 use crate::greedy::{Estimates, Greedy, estimates_of};
 use crate::memo::BoundMemo;
 use indexmap::IndexMap;
-use seq_inst::{Group, Instance, group_stands, is_leaf};
+use seq_inst::{Group, Instance, group_stands, is_leaf, same_words_hold};
 use std::alloc::{AllocError, Global};
 use std::marker::Model;
 
@@ -142,6 +142,7 @@ impl Numbers {
         ensures none { IfNone result (is_entered self.now.groups (members group.now) ≡ false) }
     {
         group_stands(group);
+        same_words_hold();
         match self.bounds.get_index_of(&group.0) {
             Some(index) => Some(index as u32),
             None => None,

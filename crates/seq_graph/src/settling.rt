@@ -6,15 +6,14 @@
 //! All sums are looked up by number, which costs less than half of settling the same rows afresh.
 ghost use Rattle.std.specs.Prelude.{◌≡◌, ◌<◌, length, slice_set, IfOk};
 ghost use Rattle.seq_inst.specs.Instances.{problem_of};
-ghost use Rattle.seq_core.specs.Settled.{groups_in, size_at, settled_row, settled_rows};
+ghost use Rattle.seq_core.specs.Settled.{groups_in, size_at, settled_row, settled_rows, AreSettledBelow};
 ghost use Rattle.seq_graph.specs.Known.{IsKnown, row_at};
-ghost use Rattle.seq_graph.specs.Settling.{AreSettledBelow};
 
 use crate::choice::least_test;
 use crate::events::revise;
 use crate::graph::Graph;
 use crate::look::look_at_all;
-use seq_core::smallest_first;
+use seq_core::{smallest_first, turns_settle};
 use seq_inst::Instance;
 use std::alloc::{AllocError, Global};
 
@@ -26,6 +25,7 @@ fn settle_row(inst: &Instance, graph: &mut Graph, place: usize) -> Result<(), Al
     ensures known { IfOk result (λ _. IsKnown (problem_of inst.now) graph.new) }
     ensures rows { IfOk result (λ _. graph.new.rows.items ≡ slice_set graph.old.rows.items place (settled_row (problem_of inst.now) (groups_in graph.old.rows.items) (row_at graph.old.rows.items place))) }
 {
+    turns_settle();
     let chosen = least_test(inst, graph, place)?;
     look_at_all(inst, graph, place)?;
     revise(inst, graph, place, chosen);
@@ -38,6 +38,7 @@ pub fn settle(alloc: Global, inst: &Instance, graph: &mut Graph) -> Result<(), A
     ensures known { IfOk result (λ _. IsKnown (problem_of inst.now) graph.new) }
     ensures rows { IfOk result (λ _. graph.new.rows.items ≡ settled_rows (problem_of inst.now) graph.old.rows.items) }
 {
+    turns_settle();
     let order = smallest_first(alloc, graph.rows.as_slice())?;
     for turn in 0..order.len() {
         settle_row(inst, graph, order[turn] as usize)?;

@@ -11,7 +11,7 @@ ghost use Rattle.seq_inst.specs.Trees.{tree_of};
 
 use crate::group::Group;
 use crate::instance::Instance;
-use crate::parts::{Answer, part};
+use crate::parts::parts_of;
 use crate::strategy::Strategy;
 use crate::weights::weight_of;
 
@@ -26,10 +26,9 @@ pub fn cost_of(inst: &Instance, strategy: &Strategy, group: &Group) -> u64
     match strategy {
         Strategy::Leaf => 0,
         Strategy::Ask { test, pass, fail } => {
-            let pass_part = part(inst, group, *test, Answer::Pass);
-            let fail_part = part(inst, group, *test, Answer::Fail);
+            let parts = parts_of(inst, group, *test);
             let first = u64::from(inst.costs[*test as usize]) * weight_of(inst, group);
-            first + (cost_of(inst, pass, &pass_part) + cost_of(inst, fail, &fail_part))
+            first + (cost_of(inst, pass, &parts.pass) + cost_of(inst, fail, &parts.fail))
         }
     }
 }

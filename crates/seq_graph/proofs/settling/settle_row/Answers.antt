@@ -1,8 +1,7 @@
 use Rattle.std.proofs.Common.{◌∙◌, length, set, sym, ap, subst, arith}
 use Rattle.seq_inst.specs.Instances.{problem_of}
-use Rattle.seq_core.specs.Settled.{groups_in, size_at, settled_row}
+use Rattle.seq_core.specs.Settled.{groups_in, size_at, settled_row, AreSettledBelow}
 use Rattle.seq_graph.specs.Known.{row_at}
-use Rattle.seq_graph.specs.Settling.{AreSettledBelow}
 use Rattle.seq_graph.proofs.SettleLaws.{tightened-settled}
 use Rattle.seq_graph.proofs.settling.settle_row.Goals as goal
 
@@ -16,5 +15,7 @@ returns-clause-rows c =
     let long = ap length same in
     let there = c.requires.place in
     let below = subst (λ l. AreSettledBelow p l (size_at l place)) (sym same) c.requires.below in
-    let row = tightened-settled c.args.inst.now s.numbers s.rows.items s.nodes.items s.counts.items c.in_ok-look_at_all.ensures.known place (omega arith) below c.in_ok-look_at_all.ensures.valued in
+    let known = c.in_ok-look_at_all.ensures.known in
+    let turn = c.turns_settle.ensures.turn c.args.inst.now (length s.rows.items) s.rows.items place known.rows_are.sound (omega arith) below in
+    let row = tightened-settled c.args.inst.now s.numbers s.rows.items s.nodes.items s.counts.items known place (omega arith) turn c.in_ok-look_at_all.ensures.valued in
     c.revise.ensures.rows ∙ ap (set s.rows.items place) row ∙ ap (λ l. set l place (settled_row p (groups_in l) (row_at l place))) same

@@ -4,7 +4,7 @@ use Rattle.std.proofs.lemmas.List.{length-map}
 use Rattle.sig_types.specs.declared.model.Block.{Block}
 use Rattle.sig_types.specs.Breaches.{block_names}
 use Rattle.sig_flat.proofs.PlacesLaws.{place-le-length}
-use Rattle.sig_flat.proofs.numbers.numbers_of_uses.Goals as goal
+use Rattle.sig_flat.proofs.survey.numbers_of_uses.Goals as goal
 
 pub overflow_cast-block_place : goal.overflow_cast-block_place
 overflow_cast-block_place c =
