@@ -1,6 +1,7 @@
 //! Groups by number, with what was worked out of each: its bound, and greedy's test and cost over it once
 //! these were asked for. A search meets the same groups again and again by other tests, so each of these
-//! is worked out once. Numbers go upwards from 0 in the order in which groups are met, so that whatever
+//! is worked out once. A group of which the bound alone is asked gets no number: the memo has such bounds.
+//! Numbers go upwards from 0 in the order in which groups are met, so that whatever
 //! else an engine knows of groups can stand in lists by number.
 //!
 //! `reserve` takes the memory for so many more groups. `number_within` takes none: it gives numbers while
