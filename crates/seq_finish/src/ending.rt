@@ -80,7 +80,7 @@ pub fn finish_graph(
     missed: Option<Group>,
 ) -> Result<Outcome, AllocError>
     requires known { IsKnown (problem_of inst.now) graph }
-    requires few { length graph.rows.items ≤ limit }
+    requires sound { IsSound (problem_of inst.now) limit (rows_from graph.rows.items) }
     requires root { is_end (problem_of inst.now) (all_classes (problem_of inst.now)) ≡ false → is_entered (groups_in graph.rows.items) (all_classes (problem_of inst.now)) ≡ true }
     requires stopped { MayStop (problem_of inst.now) limit (groups_in graph.rows.items) missed }
     ensures right { IfOk result (IsRightOutcome (problem_of inst.now) limit) }
