@@ -6,8 +6,8 @@
 //! A test is chosen by its sum over the bounds of its parts. Most tests need no sum: each test that splits
 //! the group has an estimate that is at most its sum, and a test is passed over where its estimate is above
 //! a sum that is known. The test of least estimate is asked first, so that this sum is small from the start.
-//! The bounds that were worked out for a sum are kept, as a search asks for them again; the parts of the
-//! tests that were passed over get no numbers.
+//! The bounds that were worked out for a sum are remembered for a while, as a search soon asks for them again;
+//! of the parts only those by greedy's test get numbers.
 ghost use Rattle.std.specs.Prelude.{◌≡◌, ◌⊎◌, ◌<◌, ◌≤◌, true, false, Some, IfOk, IfSome, vec_len};
 ghost use Rattle.seq_theory.specs.Problem.{IsWithin, is_end, splits as is_split, weight_of as weight_sum};
 ghost use Rattle.seq_theory.specs.Bound.{bound as bound_by, step_sum};
@@ -100,8 +100,8 @@ pub(crate) fn estimates_of(order: &Order, inst: &Instance, group: &Group) -> Est
 }
 
 impl Numbers {
-    /// The sum of a test over the group, of which the weight is known, and the bounds of its parts. Parts
-    /// of two goals or more get numbers where there is room.
+    /// The sum of a test over the group, of which the weight is known, and the bounds of its parts.
+    /// No part gets a number by it.
     fn bound_sum(&mut self, inst: &Instance, group: &Group, test: u32, weight: u64) -> u64
         requires numbers { AreNumbers (problem_of inst.now) self.old }
         requires within { IsWithin (problem_of inst.now) (members group.now) }
