@@ -92,6 +92,7 @@ fn rejected_line(alloc: Global, bad: BadLine) -> Result<Vec<u8>, AllocError>
 }
 
 /// What is due for the bytes of a certificate.
+#[tactic(auto, using(crate::proofs::ProblemLaws::accepted_as, crate::proofs::ProblemLaws::rejected_as))]
 pub fn judgement_on(
     alloc: Global,
     matrix: &Matrix,
