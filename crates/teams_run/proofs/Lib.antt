@@ -13,3 +13,4 @@ pub mod OneFigures
 pub mod OneJudgement
 pub mod OneAnswer
 pub mod OneAccepted
+pub mod BadLaws

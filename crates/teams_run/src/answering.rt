@@ -10,7 +10,6 @@ ghost use Rattle.seq_shown.specs.Laws.{ArePrintable};
 ghost use Rattle.teams_run.specs.Accepted.{IsMatrixOfText, mode_number, refusals};
 ghost use Rattle.teams_words.specs.Plans.{IsLimit};
 ghost use Rattle.teams_run.specs.Ready.{IsPrepared};
-ghost use Rattle.teams_run.specs.Solved.{class_refusals};
 ghost use Rattle.teams_run.specs.Texts.{IsFiguresText, IsTextFor, IsAnswer, IsFaultOfBytes, fit_refusals, mode_word};
 
 use crate::accepting::{flat_of_text, mode_of};
@@ -99,13 +98,14 @@ fn figured(
 }
 
 /// What `solve` writes of the matrix.
+#[tactic(auto, using(crate::proofs::UnfitLaws::unsolved))]
 fn solve_due(alloc: Global, plan: &Plan, flat: &Flat, matrix: &Matrix) -> Result<Due, ModelFault>
     requires action { plan.now.action ≡ Action.Solve }
     requires limit { IsLimit plan.now.groups }
     requires valid { IsValid matrix.now }
     requires labels { ArePrintable (labels_from matrix.now (mode_word plan.now.mode)) }
     ensures text { IfOk result (λ due. IsTextFor Action.Solve plan.now flat.now matrix.now due.status due.text.items) }
-    ensures unsolved { IfErr result (TellsFirst (class_refusals (system_of matrix.now))) }
+    ensures unfit { IfErr result (TellsFirst (fit_refusals plan.now.action (system_of matrix.now))) }
 {
     let name = mode_name(plan);
     let prepared = prepare(alloc, matrix, name)?;
@@ -125,7 +125,6 @@ fn done(text: Vec<u8>) -> Due
 }
 
 /// What an action writes of the model alone.
-#[tactic(auto, using(crate::proofs::UnfitLaws::unsolved))]
 fn action_due(alloc: Global, plan: &Plan, accepted: &Accepted) -> Result<Due, ModelFault>
     requires alone { plan.now.action ≢ Action.Check }
     requires file { plan.now.action ≢ Action.Sample }
