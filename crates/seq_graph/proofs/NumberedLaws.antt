@@ -16,7 +16,7 @@ use Rattle.seq_theory.specs.Graph.{same_group, is_entered}
 use Rattle.seq_theory.specs.Rows.{AreDistinct}
 use Rattle.seq_theory.proofs.RowLaws.{same_group-true, same_group-refl}
 use Rattle.seq_huff.specs.declared.order.Order.{Order}
-use Rattle.seq_inst.proofs.SameGroups.{same_members}
+use Rattle.seq_inst.specs.Members.{SameWordsHold}
 use Rattle.seq_core.specs.Words.{AreItsWords, AreWords, classes_of}
 use Rattle.seq_graph.specs.declared.greedy.Greedy.{Greedy}
 use Rattle.seq_graph.specs.Numbered.{Numbered, HasNumber, IsGreedyOf, AreNumbers, KeepsNumbers}
@@ -64,17 +64,8 @@ module _ {X : Type 0} where
 
 -- ---- groups by their words ----
 
-words-same : (a b : List ℕ) → AreItsWords a → AreItsWords b → same_group (classes_of a) (classes_of b) ≡ true → a ≡ b
-words-same a b wa wb e = same_members (record { 0 = a }) (record { 0 = b }) wa wb (same_group-true (classes_of a) (classes_of b) e)
-
 pub same-classes : (a b : List ℕ) → bytes_eq a b ≡ true → same_group (classes_of a) (classes_of b) ≡ true
 same-classes a b e = ap (λ l. same_group (classes_of a) (classes_of l)) (sym ((bytes_eq-Decides a b).0 e)) ∙ same_group-refl (classes_of a)
-
-pub other-classes : (a b : List ℕ) → AreItsWords a → AreItsWords b → bytes_eq a b ≡ false → same_group (classes_of a) (classes_of b) ≡ false
-other-classes a b wa wb n = elim (cases_Bool (same_group (classes_of a) (classes_of b))) [
-  | inr m ↦ m
-  | inl y ↦ absurd (true≢false (sym ((bytes_eq-Decides a b).1 (words-same a b wa wb y)) ∙ n))
-]
 
 or-second : (a b : Bool) → a || b ≡ false → b ≡ false
 or-second true b e = absurd (true≢false e)
@@ -88,14 +79,15 @@ found-number keys words n e =
     slice_get-map classes_of keys n ∙ ap (option_map classes_of) (slice_get-get_or keys n words at.0) ∙ ap (λ l. Some (classes_of l)) (sym same)
 
 -- the group of a key that isn't found has no number
-pub absent-number : (entries : List (List ℕ × ℕ)) (words : List ℕ) → AreWords (keys_of entries) → AreItsWords words → is_some (lookup (bytes_eq words) entries) ≡ false → is_entered (map classes_of (keys_of entries)) (classes_of words) ≡ false
-absent-number [] words all w e = refl
-absent-number (x ∷ rest) words all w e = elim (cases_Bool (bytes_eq words x.0)) [
+pub absent-number : SameWordsHold → (entries : List (List ℕ × ℕ)) (words : List ℕ) → AreWords (keys_of entries) → AreItsWords words → is_some (lookup (bytes_eq words) entries) ≡ false → is_entered (map classes_of (keys_of entries)) (classes_of words) ≡ false
+absent-number law [] words all w e = refl
+absent-number law (x ∷ rest) words all w e = elim (cases_Bool (bytes_eq words x.0)) [
   | inl y ↦ absurd (true≢false (sym (ap (λ b. is_some (cond b (Some x.1) (lookup (bytes_eq words) rest))) y) ∙ e))
   | inr n ↦
       (let later : is_some (lookup (bytes_eq words) rest) ≡ false = sym (ap (λ b. is_some (cond b (Some x.1) (lookup (bytes_eq words) rest))) n) ∙ e in
-      ap (λ b. b || is_entered (map classes_of (keys_of rest)) (classes_of words)) (other-classes words x.0 w (all 0 x.0 refl) n)
-      ∙ absent-number rest words (λ k l at. all (suc k) l at) w later)
+      let test = (law (record { 0 = words }) (record { 0 = x.0 }) w (all 0 x.0 refl)).test in
+      ap (λ b. b || is_entered (map classes_of (keys_of rest)) (classes_of words)) (sym test ∙ n)
+      ∙ absent-number law rest words (λ k l at. all (suc k) l at) w later)
 ]
 
 -- and the key of a group without a number isn't found

@@ -14,6 +14,7 @@
 //! changes no result. Here too stands the measure by which a walk ends.
 #![tactic(auto)]
 
+mod bounds;
 mod choice;
 mod counts;
 mod events;
@@ -31,7 +32,8 @@ mod sums;
 mod tests;
 mod waiting;
 
-pub use events::{back_up, enter};
+pub use bounds::{Bounds, backed_up};
+pub use events::{back_up, enter, hear};
 pub use graph::{Count, Graph};
 pub use laws::turns_move;
 pub use node::{Node, Split, Waiting};

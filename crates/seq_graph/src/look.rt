@@ -14,7 +14,6 @@ ghost use Rattle.seq_graph.specs.Looks.{NoneIsValued};
 
 use crate::graph::Graph;
 use crate::waiting::evaluate;
-use seq_huff::Scratch;
 use seq_inst::{Answer, Group, Instance, is_leaf, part};
 use std::alloc::AllocError;
 
@@ -41,7 +40,6 @@ fn have_ups(inst: &Instance, graph: &Graph, group: &Group, test: u32) -> bool
 
 /// Evaluates the tests that wait though both of their parts have an up.
 pub(crate) fn look_at_all(
-    scratch: &mut Scratch,
     inst: &Instance,
     graph: &mut Graph,
     place: usize,
@@ -58,7 +56,7 @@ pub(crate) fn look_at_all(
     while at < graph.nodes[place].waiting.len() {
         let test = graph.nodes[place].waiting[at].test;
         if have_ups(inst, graph, &group, test) {
-            evaluate(scratch, inst, graph, place, at)?;
+            evaluate(inst, graph, place, at)?;
         } else {
             at += 1;
         }

@@ -20,7 +20,6 @@ ghost use Rattle.seq_graph.specs.KeptOf.{HasParts, AreTestsOf, IsKeptOf, IsEvalu
 
 use crate::greedy::Estimates;
 use crate::numbers::Numbers;
-use seq_huff::Scratch;
 use seq_inst::{Answer, Group, Instance, is_leaf, part, splits, weight_of};
 use std::alloc::AllocError;
 
@@ -53,7 +52,6 @@ pub struct Node {
 
 /// The test with the numbers of the parts that it makes of the group.
 fn split_by(
-    scratch: &mut Scratch,
     numbers: &mut Numbers,
     inst: &Instance,
     group: &Group,
@@ -69,9 +67,9 @@ fn split_by(
     ensures succeeds { 2 ≤ numbers.old.room → IsOk result }
 {
     let pass_part = part(inst, group, test, Answer::Pass);
-    let pass = numbers.number_of(scratch, inst, &pass_part)?;
+    let pass = numbers.number_of(inst, &pass_part)?;
     let fail_part = part(inst, group, test, Answer::Fail);
-    let fail = numbers.number_of(scratch, inst, &fail_part)?;
+    let fail = numbers.number_of(inst, &fail_part)?;
     Ok(Split { test, pass, fail })
 }
 
@@ -107,7 +105,6 @@ impl Node {
     /// there is room. The two lists are empty; it takes no memory where there is room for the group's number
     /// and the second list has room for all tests.
     pub fn of(
-        scratch: &mut Scratch,
         numbers: &mut Numbers,
         inst: &Instance,
         group: &Group,
@@ -124,7 +121,7 @@ impl Node {
         ensures none { IfOk result (λ k. k.splits.items ≡ []) }
         ensures succeeds { 0 < numbers.old.room → vec_len inst.now.costs ≤ vec_capacity waiting → IsOk result }
     {
-        let number = numbers.number_of(scratch, inst, group)?;
+        let number = numbers.number_of(inst, group)?;
         let bound = numbers.bound_at(number);
         let weight = weight_of(inst, group);
         if is_leaf(inst, group) {
@@ -138,7 +135,7 @@ impl Node {
             });
         }
         let estimates = numbers.estimates(inst, group);
-        let greedy = numbers.greedy_from(scratch, inst, group, Some(&estimates));
+        let greedy = numbers.greedy_from(inst, group, Some(&estimates));
         let waiting = waiting_of(inst, group, &estimates, greedy, waiting)?;
         Ok(Node {
             number,
@@ -156,7 +153,6 @@ impl Node {
     /// one more evaluated test. Where the memory is short nothing but the numbers changes.
     pub fn evaluate(
         &mut self,
-        scratch: &mut Scratch,
         numbers: &mut Numbers,
         inst: &Instance,
         group: &Group,
@@ -183,7 +179,7 @@ impl Node {
         ensures greedy { self.new.greedy ≡ self.old.greedy }
     {
         let test = self.waiting[at].test;
-        let split = split_by(scratch, numbers, inst, group, test)?;
+        let split = split_by(numbers, inst, group, test)?;
         self.splits.push(split)?;
         self.waiting.swap_remove(at);
         Ok(())

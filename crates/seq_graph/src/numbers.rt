@@ -19,7 +19,7 @@ ghost use Rattle.seq_graph.specs.Numbered.{capacity, HasNumber, HasGreedy, IsGre
 use crate::greedy::{Estimates, Greedy, estimates_of};
 use indexmap::IndexMap;
 use seq_huff::{Order, Scratch, ordered_bound};
-use seq_inst::{Group, Instance, group_stands, is_leaf};
+use seq_inst::{Group, Instance, group_stands, is_leaf, same_words_hold};
 use std::alloc::{AllocError, Global};
 use std::marker::Model;
 
@@ -28,6 +28,8 @@ use std::marker::Model;
 pub struct Numbers {
     /// The weights and the costs in order, so that no bound sorts them.
     order: Order,
+    /// Room for the lists of one bound.
+    scratch: Scratch,
     /// The bound of each group by its words, in the order of numbers.
     bounds: IndexMap<[u64; 8], u64>,
     /// Greedy's test and cost over each group, by number.
@@ -64,6 +66,7 @@ impl Numbers {
         let order = Order::of(alloc, inst)?;
         Ok(Numbers {
             order,
+            scratch: Scratch::new(),
             bounds: IndexMap::new(alloc),
             greedy: Vec::new(alloc),
             room: 0,
@@ -123,13 +126,7 @@ impl Numbers {
     }
 
     /// Keeps greedy's test and cost over the group, where it has a number or there is room for one.
-    pub(crate) fn keep_greedy(
-        &mut self,
-        scratch: &mut Scratch,
-        inst: &Instance,
-        group: &Group,
-        greedy: Greedy,
-    )
+    pub(crate) fn keep_greedy(&mut self, inst: &Instance, group: &Group, greedy: Greedy)
         requires numbers { AreNumbers (problem_of inst.now) self.old }
         requires within { IsWithin (problem_of inst.now) (members group.now) }
         requires greedy { IsGreedyOf (problem_of inst.now) (members group.now) greedy }
@@ -137,7 +134,7 @@ impl Numbers {
         ensures keeps { KeepsNumbers self.old self.new }
         ensures capacity { capacity self.new ≡ capacity self.old }
     {
-        if let Some(number) = self.number_within(scratch, inst, group) {
+        if let Some(number) = self.number_within(inst, group) {
             self.write_greedy(number, greedy);
         }
     }
@@ -148,6 +145,7 @@ impl Numbers {
         ensures none { IfNone result (is_entered self.now.groups (members group.now) ≡ false) }
     {
         group_stands(group);
+        same_words_hold();
         match self.bounds.get_index_of(&group.0) {
             Some(index) => Some(index as u32),
             None => None,
@@ -191,7 +189,7 @@ impl Numbers {
     }
 
     /// Gives the group, which has no number, the next one, with its bound.
-    fn next_number(&mut self, scratch: &mut Scratch, inst: &Instance, group: &Group) -> u32
+    fn next_number(&mut self, inst: &Instance, group: &Group) -> u32
         requires numbers { AreNumbers (problem_of inst.now) self.old }
         requires within { IsWithin (problem_of inst.now) (members group.now) }
         requires absent { is_entered self.old.groups (members group.now) ≡ false }
@@ -202,18 +200,13 @@ impl Numbers {
         ensures capacity { capacity self.new ≡ capacity self.old }
         ensures one { self.old.room ≤ self.new.room + 1 }
     {
-        let bound = self.fresh_bound(scratch, inst, group);
+        let bound = self.fresh_bound(inst, group);
         self.add(group, bound)
     }
 
     /// The number of the group. One that has none gets the next one, with its bound. It takes memory only
     /// where the group has no number and no room is left.
-    pub fn number_of(
-        &mut self,
-        scratch: &mut Scratch,
-        inst: &Instance,
-        group: &Group,
-    ) -> Result<u32, AllocError>
+    pub fn number_of(&mut self, inst: &Instance, group: &Group) -> Result<u32, AllocError>
         requires numbers { AreNumbers (problem_of inst.now) self.old }
         requires within { IsWithin (problem_of inst.now) (members group.now) }
         ensures numbers { AreNumbers (problem_of inst.now) self.new }
@@ -231,17 +224,12 @@ impl Numbers {
             return Ok(number);
         }
         self.reserve(1)?;
-        Ok(self.next_number(scratch, inst, group))
+        Ok(self.next_number(inst, group))
     }
 
     /// The number of the group. One that has none gets the next one, with its bound, while there is room.
     /// It takes no memory.
-    pub fn number_within(
-        &mut self,
-        scratch: &mut Scratch,
-        inst: &Instance,
-        group: &Group,
-    ) -> Option<u32>
+    pub fn number_within(&mut self, inst: &Instance, group: &Group) -> Option<u32>
         requires numbers { AreNumbers (problem_of inst.now) self.old }
         requires within { IsWithin (problem_of inst.now) (members group.now) }
         ensures numbers { AreNumbers (problem_of inst.now) self.new }
@@ -262,17 +250,18 @@ impl Numbers {
         if self.room == 0 {
             return None;
         }
-        Some(self.next_number(scratch, inst, group))
+        Some(self.next_number(inst, group))
     }
 
     /// The bound of the group, worked out afresh.
-    fn fresh_bound(&self, scratch: &mut Scratch, inst: &Instance, group: &Group) -> u64
-        requires numbers { AreNumbers (problem_of inst.now) self.now }
+    fn fresh_bound(&mut self, inst: &Instance, group: &Group) -> u64
+        requires numbers { AreNumbers (problem_of inst.now) self.old }
         requires within { IsWithin (problem_of inst.now) (members group.now) }
+        ensures unchanged { self.new ≡ self.old }
         ensures value { result ≡ bound_by (problem_of inst.now) (members group.now) }
         ensures fits { result ≤ greatest_cost }
     {
-        ordered_bound(scratch, &self.order, inst, group)
+        ordered_bound(&mut self.scratch, &self.order, inst, group)
     }
 
     /// The estimates of the tests that split the group, which has two goals or more.
@@ -287,12 +276,7 @@ impl Numbers {
 
     /// The bound of the group. A group of two goals or more gets a number where there is room; one of
     /// one goal needs none, as its bound is 0.
-    pub(crate) fn bound_within(
-        &mut self,
-        scratch: &mut Scratch,
-        inst: &Instance,
-        group: &Group,
-    ) -> u64
+    pub(crate) fn bound_within(&mut self, inst: &Instance, group: &Group) -> u64
         requires numbers { AreNumbers (problem_of inst.now) self.old }
         requires within { IsWithin (problem_of inst.now) (members group.now) }
         ensures numbers { AreNumbers (problem_of inst.now) self.new }
@@ -304,9 +288,9 @@ impl Numbers {
         if is_leaf(inst, group) {
             return 0;
         }
-        match self.number_within(scratch, inst, group) {
+        match self.number_within(inst, group) {
             Some(number) => self.bound_at(number),
-            None => self.fresh_bound(scratch, inst, group),
+            None => self.fresh_bound(inst, group),
         }
     }
 }
