@@ -16,7 +16,7 @@ use seq_inst::{Group, Instance, root};
 use std::alloc::{AllocError, Global};
 
 /// The most slots of a memo, each of 72 bytes.
-const MOST_SLOTS: usize = 16384;
+const MOST_SLOTS: usize = 65536;
 
 /// A group with its bound.
 #[derive(Clone, Copy)]
