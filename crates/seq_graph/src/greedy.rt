@@ -22,7 +22,7 @@ ghost use Rattle.seq_graph.specs.Numbered.{capacity, AreNumbers, KeepsNumbers};
 
 use crate::numbers::Numbers;
 use seq_huff::{Estimate, Order};
-use seq_inst::{Answer, Group, Instance, Strategy, ask_first, is_leaf, part, splits, weight_of};
+use seq_inst::{Group, Instance, Strategy, ask_first, is_leaf, parts_of, splits, weight_of};
 use std::alloc::{AllocError, Global};
 
 /// Greedy's test of a group, and what greedy costs over the group.
@@ -112,10 +112,9 @@ impl Numbers {
         ensures capacity { capacity self.new ≡ capacity self.old }
         ensures value { result ≡ step_sum (problem_of inst.now) (bound_by (problem_of inst.now)) (members group.now) test }
     {
-        let pass_part = part(inst, group, test, Answer::Pass);
-        let pass = self.bound_within(inst, &pass_part);
-        let fail_part = part(inst, group, test, Answer::Fail);
-        let fail = self.bound_within(inst, &fail_part);
+        let parts = parts_of(inst, group, test);
+        let pass = self.bound_within(inst, &parts.pass);
+        let fail = self.bound_within(inst, &parts.fail);
         u64::from(inst.costs[test as usize]) * weight + (pass + fail)
     }
 
@@ -246,10 +245,9 @@ impl Numbers {
         }
         let weight = weight_of(inst, group);
         let test = self.greedy_test(inst, group, weight, estimates);
-        let pass_part = part(inst, group, test, Answer::Pass);
-        let pass = self.greedy_from(inst, &pass_part, None);
-        let fail_part = part(inst, group, test, Answer::Fail);
-        let fail = self.greedy_from(inst, &fail_part, None);
+        let parts = parts_of(inst, group, test);
+        let pass = self.greedy_from(inst, &parts.pass, None);
+        let fail = self.greedy_from(inst, &parts.fail, None);
         let cost = u64::from(inst.costs[test as usize]) * weight + (pass + fail);
         self.keep_greedy(inst, group, Greedy { test, cost });
         cost
@@ -291,10 +289,9 @@ impl Numbers {
             return Ok(Strategy::Leaf);
         }
         let test = self.greedy_choice(inst, group);
-        let pass_part = part(inst, group, test, Answer::Pass);
-        let pass = self.greedy_tree(alloc, inst, &pass_part)?;
-        let fail_part = part(inst, group, test, Answer::Fail);
-        let fail = self.greedy_tree(alloc, inst, &fail_part)?;
+        let parts = parts_of(inst, group, test);
+        let pass = self.greedy_tree(alloc, inst, &parts.pass)?;
+        let fail = self.greedy_tree(alloc, inst, &parts.fail)?;
         ask_first(alloc, test, pass, fail)
     }
 }

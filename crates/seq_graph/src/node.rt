@@ -20,7 +20,7 @@ ghost use Rattle.seq_graph.specs.KeptOf.{HasParts, AreTestsOf, IsKeptOf, IsEvalu
 
 use crate::greedy::Estimates;
 use crate::numbers::Numbers;
-use seq_inst::{Answer, Group, Instance, is_leaf, part, splits, weight_of};
+use seq_inst::{Group, Instance, is_leaf, parts_of, splits, weight_of};
 use std::alloc::AllocError;
 
 /// A test that splits a group, with the numbers of the part that passes it and the part that fails it.
@@ -66,10 +66,9 @@ fn split_by(
     ensures parts { IfOk result (HasParts (problem_of inst.now) numbers.new (members group.now)) }
     ensures succeeds { 2 ≤ numbers.old.room → IsOk result }
 {
-    let pass_part = part(inst, group, test, Answer::Pass);
-    let pass = numbers.number_of(inst, &pass_part)?;
-    let fail_part = part(inst, group, test, Answer::Fail);
-    let fail = numbers.number_of(inst, &fail_part)?;
+    let parts = parts_of(inst, group, test);
+    let pass = numbers.number_of(inst, &parts.pass)?;
+    let fail = numbers.number_of(inst, &parts.fail)?;
     Ok(Split { test, pass, fail })
 }
 

@@ -13,6 +13,7 @@ ghost use Rattle.seq_graph.specs.Parts.{IsKnowledge};
 use crate::choice::least_test;
 use crate::graph::Graph;
 use seq_inst::{Answer, Group, Instance};
+use seq_theory::walks_hold;
 use std::alloc::AllocError;
 
 /// What a walk does at a group.
@@ -98,6 +99,7 @@ pub fn next_step(
     ensures step { IfOk result (IsStep (problem_of inst.now) graph.old.rows.items (members (group_at graph.old.rows.items place))) }
     ensures first { IfOk result (EntersFirst (problem_of inst.now) graph.old.rows.items (members (group_at graph.old.rows.items place)) first) }
 {
+    walks_hold();
     let split = least_test(inst, graph, place)?.split;
     let pass_part = graph.numbers.group_at(split.pass);
     let fail_part = graph.numbers.group_at(split.fail);
