@@ -116,7 +116,7 @@ pub fn back_up(inst: &Instance, graph: &mut Graph, place: usize) -> Result<(), A
 }
 
 /// Gives a group a row with what greedy costs for an up, and what is kept of it.
-pub(crate) fn add(
+pub fn add(
     alloc: Global,
     inst: &Instance,
     graph: &mut Graph,
