@@ -167,11 +167,11 @@ module _ (inst : Instance) (v : Numbered) (rows : List Row) (kept : List Node) (
   now-found : row_for (rows_from (capped_at (raised_at rows place low) place up)) (members (group_at rows place)) ≡ Some (row_from (record { group = group_at rows place; low = max (row_at rows place).low low; up = min (row_at rows place).up up }))
   now-found =
       subst (λ (g : Group). row_for (rows_from (capped_at (raised_at rows place low) place up)) (members g) ≡ Some (row_from (row_at (capped_at (raised_at rows place low) place up) place))) (ap (λ (r : Row). r.group) now-row)
-      (row-at-place (capped_at (raised_at rows place low) place up) place narrowed.known.sound.distinct (let l = now-long in omega arith))
+      (row-at-place (capped_at (raised_at rows place low) place up) place narrowed.known.distinct (let l = now-long in omega arith))
       ∙ ap (λ (r : Row). Some (row_from r)) now-row
 
   before : count_of (problem_of inst) rows (members (group_at rows place)) ≡ record { low = max (row_at rows place).low (bound (problem_of inst) (members (group_at rows place))); up = (row_at rows place).up; place = place_of_group (rows_from rows) (members (group_at rows place)) }
-  before = count-row (problem_of inst) rows (members (group_at rows place)) (row_from (row_at rows place)) (place_of_group (rows_from rows) (members (group_at rows place))) goals (row-at-place rows place known.rows_are.sound.distinct lt) refl
+  before = count-row (problem_of inst) rows (members (group_at rows place)) (row_from (row_at rows place)) (place_of_group (rows_from rows) (members (group_at rows place))) goals (row-at-place rows place known.rows_are.distinct lt) refl
 
   after : count_of (problem_of inst) (capped_at (raised_at rows place low) place up) (members (group_at rows place))
       ≡ record { low = max (max (row_at rows place).low low) (bound (problem_of inst) (members (group_at rows place))); up = min (row_at rows place).up up; place = place_of_group (rows_from rows) (members (group_at rows place)) }
@@ -265,7 +265,7 @@ module _ (inst : Instance) (old new : Numbered) (rows : List Row) (kept : List N
       let larger : bound p (members g) ≡ max 0 (bound p (members g)) = omega arith in
       let placed : record (count_at more k.number) { up = k.greedy; place = Some place } ≡ now (members g) =
       ap (λ (c : Count). record c { up = k.greedy; place = Some place }) (here ∙ old_is) ∙ ap (λ n. record { low = bound p (members g); up = k.greedy; place = Some n }) place_is ∙ ap (λ n. record { low = n; up = k.greedy; place = Some (length rows) }) larger ∙ sym new_is in
-      let entered = entered-known inst rows g k.greedy known.rows_are real absent of.greedy in
+      let entered = entered-known inst rows g k.greedy real absent of.greedy known.rows_are in
       record {
         rows_are = entered;
         numbers_are = numbers;

@@ -4,16 +4,16 @@
 -- value, and one that waits has a part without a value.
 use Rattle.std.proofs.Common.{◌≡◌, ℕ, zero, suc, ◌+◌, ◌*◌, ◌<◌, ◌≤◌, min, List, [], ◌∷◌, length, length-set, map, set, slice_get, slice_index, get_or-set_same, get_or-set_other, refl, sym, ap, ◌∙◌, arith, inl, inr, subst, Some, None}
 use Rattle.std.specs.List.{filter_map}
-use Rattle.seq_theory.specs.Problem.{IsIn, IsWithin, pass_part, fail_part, fails, splitting, weight_of}
+use Rattle.seq_theory.specs.Problem.{Problem, least_of, IsIn, IsWithin, pass_part, fail_part, fails, splitting, weight_of}
 use Rattle.seq_theory.specs.Bound.{step_sum}
 use Rattle.seq_theory.specs.Greedy.{greedy_cost}
 use Rattle.seq_theory.specs.Graph.{low, val, step_value}
-use Rattle.seq_theory.specs.Rows.{known_low, known_up, least_up}
+use Rattle.seq_theory.specs.Rows.{known_low, known_up, most_low, least_up}
 use Rattle.seq_theory.proofs.GroupLaws.{pass_part_smaller, fail_part_smaller}
 use Rattle.seq_theory.proofs.GreedyLaws.{part-within}
 use Rattle.seq_theory.proofs.PartsRecursion.{splitting-splits}
 use Rattle.seq_theory.proofs.LowLaws.{low-le-least}
-use Rattle.seq_theory.proofs.ValLaws.{least-le-val, least_of-first, least_of-values-le, IsLeastValue, is_first, is_at, least_value, values-at_least, sum_with-parts}
+use Rattle.seq_theory.proofs.ValLaws.{val-entered, least-le-val, least_of-first, least_of-values-le, IsLeastValue, is_first, is_at, least_value, values-at_least, sum_with-parts}
 use Rattle.seq_theory.proofs.CountedLaws.{counted-length, counted-below}
 use Rattle.seq_inst.specs.declared.group.Group.{Group}
 use Rattle.seq_inst.specs.declared.instance.Instance.{Instance}
@@ -25,16 +25,21 @@ use Rattle.seq_graph.specs.declared.node.Split.{Split}
 use Rattle.seq_graph.specs.declared.node.Waiting.{Waiting}
 use Rattle.seq_graph.specs.KeptOf.{Waits}
 use Rattle.seq_graph.specs.Numbered.{Numbered}
-use Rattle.seq_core.specs.RowsOf.{rows_of as rows_from}
+use Rattle.seq_core.specs.RowsOf.{row_of as row_from, rows_of as rows_from}
 use Rattle.seq_core.specs.Settled.{groups_in, value_or, size_at, settled_row, IsTurnOf}
 use Rattle.seq_graph.proofs.KeptLaws.{all-waits}
 use Rattle.seq_graph.specs.declared.graph.Count.{Count}
-use Rattle.seq_graph.specs.Known.{AreRows, AreKnown, no_row, row_at, group_at, splits_in, splits_at, waiting_in, waiting_at}
+use Rattle.seq_graph.specs.Known.{AreRows, AreSound, AreKnown, IsClosedAt, heard, no_row, row_at, group_at, splits_in, splits_at, waiting_in, waiting_at}
 use Rattle.seq_graph.specs.Looks.{NoneIsValued}
-use Rattle.seq_graph.specs.Settling.{evaluated_up, tightened_row}
-use Rattle.seq_graph.proofs.KnownLaws.{row-within}
+use Rattle.seq_graph.specs.Settling.{evaluated_up}
+use Rattle.seq_graph.proofs.KnownLaws.{row-real, row-within}
+use Rattle.seq_graph.proofs.RowLaws.{row-among, row-entered}
 use Rattle.seq_graph.proofs.SplitLaws.{kept-there}
 use Rattle.seq_graph.proofs.CoverLaws.{test-listed}
+
+-- the row of the place, raised to what all tests give, and capped by those that are evaluated
+abbrev tightened_row : Problem → List Row → List Node → ℕ → Row
+tightened_row p rows kept place = heard (most_low p (rows_from rows) (members (group_at rows place))) (evaluated_up p rows kept place) (row_at rows place)
 
 none-some : (n : ℕ) → None ≡ Some n → ⊥
 none-some n e = let bad : ⊥ = cc in bad
@@ -116,3 +121,35 @@ module _ (inst : Instance) (v : Numbered) (rows : List Row) (kept : List Node) (
       let up_is : min (row_at rows place).up (evaluated_up p rows kept place) ≡ value_or (val p (groups_in rows) g) = omega arith in
       ap (λ n. record { group = group_at rows place; low = n; up = min (row_at rows place).up (evaluated_up p rows kept place) }) low_is
       ∙ ap (λ n. record { group = group_at rows place; low = low p (groups_in rows) g; up = n }) up_is
+
+-- ---- a row whose low and up are equal ----
+
+-- what the rows' groups give lies between them
+pub closed-settled : (inst : Instance) (rows : List Row) → AreRows (problem_of inst) rows → AreSound (problem_of inst) rows → (k : ℕ) → k < length rows → IsClosedAt rows k → settled_row (problem_of inst) (groups_in rows) (row_at rows k) ≡ row_at rows k
+closed-settled inst rows known sound k lt closed =
+    go (least_of (greedy_cost (problem_of inst) (members (group_at rows k)) ∷ filter_map (step_value (problem_of inst) (val (problem_of inst) (groups_in rows)) (members (group_at rows k))) (splitting (problem_of inst) (members (group_at rows k)))))
+    (val-entered (problem_of inst) (groups_in rows) (members (group_at rows k)) (row-real (problem_of inst) rows known k lt).goals (row-entered rows k no_row lt))
+  where
+    go : (v : ℕ) → val (problem_of inst) (groups_in rows) (members (group_at rows k)) ≡ Some v → settled_row (problem_of inst) (groups_in rows) (row_at rows k) ≡ row_at rows k
+    go v value =
+        let p = problem_of inst in
+        let r = row_at rows k in
+        let g = members r.group in
+        let within = row-within p rows known k lt in
+        let below = sound.lows (row_from r) (row-among rows k no_row lt) in
+        let above = sound.ups (row_from r) (row-among rows k no_row lt) v value in
+        let left = low-le-least p (groups_in rows) g inst.stands.weighed inst.valid.told within in
+        let right = least-le-val p (groups_in rows) g v inst.valid.told within value in
+        let low_is : low p (groups_in rows) g ≡ r.low = omega arith in
+        let up_is : v ≡ r.up = omega arith in
+        ap (λ n. record { group = r.group; low = n; up = value_or (val p (groups_in rows) g) }) low_is
+        ∙ ap (λ o. record { group = r.group; low = r.low; up = value_or o }) value
+        ∙ ap (λ n. record { group = r.group; low = r.low; up = n }) up_is
+
+set-itself : (rows : List Row) (k : ℕ) → set rows k (row_at rows k) ≡ rows
+set-itself [] k = refl
+set-itself (r ∷ rest) zero = refl
+set-itself (r ∷ rest) (suc k) = ap (λ l. r ∷ l) (set-itself rest k)
+
+pub closed-set : (inst : Instance) (rows : List Row) → AreRows (problem_of inst) rows → AreSound (problem_of inst) rows → (k : ℕ) → k < length rows → IsClosedAt rows k → rows ≡ set rows k (settled_row (problem_of inst) (groups_in rows) (row_at rows k))
+closed-set inst rows known sound k lt closed = sym (ap (set rows k) (closed-settled inst rows known sound k lt closed) ∙ set-itself rows k)

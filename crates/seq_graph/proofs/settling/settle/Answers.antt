@@ -9,7 +9,8 @@ use Rattle.seq_graph.proofs.settling.settle.Goals as goal
 pub loop-turn-init : goal.loop-turn-init
 loop-turn-init c = record {
   known = c.requires.known;
-  settling = c.turns_settle.ensures.start c.args.inst.now (length c.args.graph.now.rows.items) c.args.graph.now.rows.items c.in_ok-order.order.items c.requires.known.rows_are.sound;
+  sound = c.requires.sound;
+  settling = c.turns_settle.ensures.start c.args.inst.now (length c.args.graph.now.rows.items) c.args.graph.now.rows.items c.in_ok-order.order.items c.requires.sound;
 }
 
 pub settle_row-requires-clause-place : goal.settle_row-requires-clause-place
@@ -46,6 +47,7 @@ loop-turn-preserved c =
     let at : c.index.result.now ≡ slice_index order turn = get_or_read order turn c.index.result.now lt c.index.ensures 0 in
     record {
       known = c.in_ok-settle_row.ensures.known;
+      sound = c.in_ok-settle_row.ensures.sound;
       settling = subst (λ l. AreSettling p rows l (IsAmongFirst order (turn + 1))) (sym (c.in_ok-settle_row.ensures.rows ∙ ap (λ k. set now k (settled_row p (groups_in now) (row_at now k))) at))
           (c.turns_settle.ensures.next p rows now order turn by lt c.loop-turn.invariant.settling).1;
     }
