@@ -1,4 +1,4 @@
-use Rattle.std.proofs.Common.{◌≡◌, ◌<◌, ◌∙◌, length, get_or, take, take_all, arith, sym, ap, subst, None}
+use Rattle.std.proofs.Common.{◌≡◌, ◌<◌, ◌∙◌, List, length, get_or, take, take_all, arith, sym, ap, subst, None}
 use Rattle.std.specs.Prelude.{All}
 use Rattle.std.proofs.lemmas.List.{get_or_read, take_more}
 use Rattle.std.proofs.lemmas.List.Elements.{All-push}
@@ -108,3 +108,18 @@ returns-clause-valued c =
     let len = c.len.ensures in
     let end = c.loop-at-test.false in
     subst (All (λ (x : Waiting). f (members (group_at s.rows.items c.args.place)) x.test ≡ None)) (take_all c.loop-at.at xs (omega arith)) i.valued
+
+pub loop-at-preserved-in_ok-evaluate : goal.loop-at-preserved-in_ok-evaluate
+loop-at-preserved-in_ok-evaluate c =
+    let e = c.in_ok-evaluate.ensures in
+    let i = c.loop-at.invariant in
+    let p = problem_of c.args.inst.now in
+    let s = c.loop-at.graph in
+    let n = c.evaluate.new.graph in
+    record {
+      known = e.known;
+      rows = e.rows ∙ i.rows;
+      valued = subst (λ (rows : List Row). All (λ (x : Waiting). step_value p (known_up p (rows_from rows)) (members (group_at rows c.args.place)) x.test ≡ None) (take c.loop-at.at (waiting_at n.nodes.items c.args.place))) (sym e.rows)
+          (subst (All (λ (x : Waiting). step_value p (known_up p (rows_from s.rows.items)) (members (group_at s.rows.items c.args.place)) x.test ≡ None)) (sym e.before) i.valued);
+      listed = λ x there. e.listed x (i.listed x there);
+    }
