@@ -20,8 +20,9 @@ use Rattle.seq_cert.specs.declared.report.GroupLine.{GroupLine}
 use Rattle.seq_cert.specs.declared.report.MissedLine.{MissedLine}
 use Rattle.seq_cert.specs.LineForms.{class_in, test_in, is_tree_line, tree_line_in, group_in, missed_in, end_in}
 use Rattle.seq_cert.specs.Text.{class_words, state_words, tree_words, group_words, missed_words, class_lines, test_lines, missed_lines, report_lines, report_bytes}
-use Rattle.seq_cert.specs.Reading.{head_at, states_at, class_of, class_at, classes_at, lines_at, asks_after, with_asks, and_more, tree_lines_at, tree_at, missed_at, body_at, report_with, whole_at, is_nothing, only, report_at}
-use Rattle.seq_cert.specs.ReportForm.{head_of_report, IsHead, AreStates, IsClassLine, IsClass, AreClasses, IsTest, AreTreeLines, IsGroupLine, IsMissed, IsMissing, IsReport}
+use Rattle.seq_cert.specs.Places.{asks_after, with_asks}
+use Rattle.seq_cert.specs.Reading.{head_at, states_at, class_line_of, class_at, classes_at, lines_at, and_more, tree_lines_at, read_tree, read_missed, body_at, report_with, whole_at, is_nothing, only, report_at}
+use Rattle.seq_cert.specs.ReportForm.{head_of_report, IsHead, AreStates, IsClassLine, IsClass, AreClasses, IsTest, AreTreeLines, IsGroupLine, IsMissedLine, IsMissing, IsReport}
 use Rattle.seq_cert.proofs.Spells.{AreLines-append, Took, Rereads, Spells, Took-then, ok_is, bind_ok, line_spells, pair_spells, then_spells, as_spells, fits_as, numbered_lines, many_spells}
 use Rattle.seq_cert.proofs.FormLaws.{class_form, test_form, IsTreeLine, tree_form, group_form, missed_form, end_form}
 use Rattle.seq_cert.proofs.HeadLaws.{head_words, head_spells, states_spells}
@@ -41,7 +42,7 @@ module _ (hold : LinesHold) where
   unfolding class_at class_back
   class_spells room k small = fits_as (class_at room k) (λ c. class_words k c.weight (length c.states) ∷ map state_words c.states) _ (IsClass room)
       (λ c f. record { line = f.0; states = f.1 }) (λ c f. (f.line, f.states))
-      (as_spells class_of class_back (pair (line_at (class_in k)) (λ x. states_at room x.1)) _ (λ (x : (ℕ × ℕ) × List StateLine). IsClassLine x.0 × AreStates room x.0.1 x.1)
+      (as_spells class_line_of class_back (pair (line_at (class_in k)) (λ x. states_at room x.1)) _ (λ (x : (ℕ × ℕ) × List StateLine). IsClassLine x.0 × AreStates room x.0.1 x.1)
       (λ a f. ap (λ (n : ℕ). ((a.0.0, n), a.1)) f.1.0) (λ b. refl)
       (pair_spells (line_at (class_in k)) (λ x. class_words k x.0 x.1 ∷ []) IsClassLine (λ x. states_at room x.1) (λ x. map state_words) (λ x. AreStates room x.1)
       (line_spells hold (class_in k) (λ x. class_words k x.0 x.1) IsClassLine ((class_form hold) k small)) (λ x f. (states_spells hold) room x.1)))
@@ -121,11 +122,11 @@ module _ (hold : LinesHold) where
 
   -- ---- the last lines
 
-  missed_law : Spells (line_at missed_in) (λ m. missed_words m ∷ []) IsMissed
-  missed_law = line_spells hold missed_in missed_words IsMissed (missed_form hold)
+  missed_law : Spells (line_at missed_in) (λ m. missed_words m ∷ []) IsMissedLine
+  missed_law = line_spells hold missed_in missed_words IsMissedLine (missed_form hold)
 
-  missed_takes : (v : Verdict) (c : Cursor) (x : Option MissedLine × Cursor) → missed_at v c ≡ Ok x → Took c (missed_lines x.0) x.1 × IsMissing v x.0
-  unfolding missed_at
+  missed_takes : (v : Verdict) (c : Cursor) (x : Option MissedLine × Cursor) → read_missed v c ≡ Ok x → Took c (missed_lines x.0) x.1 × IsMissing v x.0
+  unfolding read_missed
   missed_takes Optimal c x e =
       let made : Option MissedLine × Cursor = (None, c) in
       subst (λ (y : Option MissedLine × Cursor). Took c (missed_lines y.0) y.1 × IsMissing Optimal y.0) (ok_is made x e) (record { lines_are = refl; tail_is = refl }, tt)
@@ -135,8 +136,8 @@ module _ (hold : LinesHold) where
       let made : Option MissedLine × Cursor = (Some a.0.0, a.0.1) in
       subst (λ (y : Option MissedLine × Cursor). Took c (missed_lines y.0) y.1 × IsMissing Bounded y.0) (ok_is made x a.2) t
 
-  missed_again : (v : Verdict) (n : ℕ) (tail : List ℕ) (rest : List (List ℕ)) (m : Option MissedLine) → IsMissing v m → Rereads (missed_at v) n tail (map spaced (missed_lines m)) rest m
-  unfolding missed_at
+  missed_again : (v : Verdict) (n : ℕ) (tail : List ℕ) (rest : List (List ℕ)) (m : Option MissedLine) → IsMissing v m → Rereads (read_missed v) n tail (map spaced (missed_lines m)) rest m
+  unfolding read_missed
   missed_again Optimal n tail rest None fit = record { number = n; is = refl }
   missed_again Optimal n tail rest (Some m) fit = absurd fit
   missed_again Bounded n tail rest None fit = absurd fit
@@ -149,7 +150,7 @@ module _ (hold : LinesHold) where
   missed_plain Optimal (Some m) fit = absurd fit
   missed_plain Bounded (Some m) fit = missed_law.plain m fit
 
-  pub missed_spells : (v : Verdict) → Spells (missed_at v) missed_lines (IsMissing v)
+  pub missed_spells : (v : Verdict) → Spells (read_missed v) missed_lines (IsMissing v)
   missed_spells v = record { takes = missed_takes v; again = missed_again v; plain = missed_plain v }
 
   pub end_spells : Spells (line_at end_in) (λ t. (codes "end" ∷ []) ∷ []) (λ t. Unit {0})
@@ -200,7 +201,7 @@ module _ (hold : LinesHold) where
   tree_stops asks n tail [] other = refl
   tree_stops asks n tail (l ∷ ls) other = rw other refl
 
-  tree_again : (asks n : ℕ) (tail : List ℕ) (rest : List (List ℕ)) (xs : List TreeLine) → IsOther rest → AreTreeLines asks xs → Rereads (tree_at asks) n tail (map spaced (map tree_words xs)) rest xs
+  tree_again : (asks n : ℕ) (tail : List ℕ) (rest : List (List ℕ)) (xs : List TreeLine) → IsOther rest → AreTreeLines asks xs → Rereads (read_tree asks) n tail (map spaced (map tree_words xs)) rest xs
   tree_again asks n tail rest [] other fit = record { number = n; is = tree_stops asks n tail rest other }
   tree_again asks n tail rest (Leaf c ∷ xs) other fit =
       let r = tree_again asks (n + 1) tail rest xs other fit.1 in
@@ -230,9 +231,9 @@ module _ (hold : LinesHold) where
 
   -- tree lines and then lines that begin with another kind
   module _ {B : Type 0} (asks : ℕ) (q : Cursor → Reading B) (t : B → List (List (List ℕ))) (g : B → Type 0) where
-    tree_then_takes : Spells q t g → (c : Cursor) (x : (List TreeLine × B) × Cursor) → (tree_at asks then q) c ≡ Ok x → Took c (map tree_words x.0.0 ++ t x.0.1) x.1 × (AreTreeLines asks x.0.0 × g x.0.1)
+    tree_then_takes : Spells q t g → (c : Cursor) (x : (List TreeLine × B) × Cursor) → (read_tree asks then q) c ≡ Ok x → Took c (map tree_words x.0.0 ++ t x.0.1) x.1 × (AreTreeLines asks x.0.0 × g x.0.1)
     tree_then_takes law c x e =
-        let a = bind_ok (tree_at asks c) (λ x. q x.1 >>= λ y. Ok ((x.0, y.0), y.1)) x e in
+        let a = bind_ok (read_tree asks c) (λ x. q x.1 >>= λ y. Ok ((x.0, y.0), y.1)) x e in
         let ta = tree_takes asks c.number c.tail c.lines a.0 a.1 in
         let b = bind_ok (q a.0.1) (λ y. Ok ((a.0.0, y.0), y.1)) x a.2 in
         let tb = law.takes a.0.1 b.0 b.1 in
@@ -240,7 +241,7 @@ module _ (hold : LinesHold) where
         subst (λ (y : (List TreeLine × B) × Cursor). Took c (map tree_words y.0.0 ++ t y.0.1) y.1 × (AreTreeLines asks y.0.0 × g y.0.1)) (ok_is made x b.2)
         (Took-then c a.0.1 b.0.1 (map tree_words a.0.0) (t b.0.0) ta.0 tb.0, (ta.1, tb.1))
 
-    tree_then_again : Spells q t g → ((b : B) → g b → (rest : List (List ℕ)) → IsOther (map spaced (t b) ++ rest)) → (n : ℕ) (tail : List ℕ) (rest : List (List ℕ)) (x : List TreeLine × B) → AreTreeLines asks x.0 × g x.1 → Rereads (tree_at asks then q) n tail (map spaced (map tree_words x.0 ++ t x.1)) rest x
+    tree_then_again : Spells q t g → ((b : B) → g b → (rest : List (List ℕ)) → IsOther (map spaced (t b) ++ rest)) → (n : ℕ) (tail : List ℕ) (rest : List (List ℕ)) (x : List TreeLine × B) → AreTreeLines asks x.0 × g x.1 → Rereads (read_tree asks then q) n tail (map spaced (map tree_words x.0 ++ t x.1)) rest x
     tree_then_again law starts n tail rest x fit =
         let a = tree_again asks n tail (map spaced (t x.1) ++ rest) x.0 (starts x.1 fit.1 rest) fit.0 in
         let b = law.again a.number tail rest x.1 fit.1 in
@@ -248,10 +249,10 @@ module _ (hold : LinesHold) where
         ap (λ l. l ++ rest) (map-append spaced (map tree_words x.0) (t x.1)) ∙ append_assoc (map spaced (map tree_words x.0)) (map spaced (t x.1)) rest in
         record {
           number = b.number;
-          is = ap (λ l. (tree_at asks then q) (record { number = n; lines = l; tail = tail })) grouped ∙ ap (λ v. v >>= λ x. q x.1 >>= λ y. Ok ((x.0, y.0), y.1)) a.is ∙ ap (λ v. v >>= λ y. Ok ((x.0, y.0), y.1)) b.is;
+          is = ap (λ l. (read_tree asks then q) (record { number = n; lines = l; tail = tail })) grouped ∙ ap (λ v. v >>= λ x. q x.1 >>= λ y. Ok ((x.0, y.0), y.1)) a.is ∙ ap (λ v. v >>= λ y. Ok ((x.0, y.0), y.1)) b.is;
         }
 
-    tree_spells : Spells q t g → ((b : B) → g b → (rest : List (List ℕ)) → IsOther (map spaced (t b) ++ rest)) → Spells (tree_at asks then q) (λ x. map tree_words x.0 ++ t x.1) (λ x. AreTreeLines asks x.0 × g x.1)
+    tree_spells : Spells q t g → ((b : B) → g b → (rest : List (List ℕ)) → IsOther (map spaced (t b) ++ rest)) → Spells (read_tree asks then q) (λ x. map tree_words x.0 ++ t x.1) (λ x. AreTreeLines asks x.0 × g x.1)
     tree_spells law starts = record {
       takes = tree_then_takes law;
       again = tree_then_again law starts;
@@ -269,9 +270,9 @@ module _ (hold : LinesHold) where
   abbrev IsLast : ℕ → Verdict → Last → Type 0
   IsLast count v x = ((length x.0 ≡ count) × AllByRecursion IsGroupLine x.0) × (IsMissing v x.1.0 × Unit {0})
 
-  last_spells : (count : ℕ) (v : Verdict) → count ≤ 2 ^ 64 → Spells (lines_at (λ k. group_in) count 0 then (missed_at v then line_at end_in)) last_lines (IsLast count v)
-  last_spells count v few = then_spells (lines_at (λ k. group_in) count 0) (map group_words) (λ gs. (length gs ≡ count) × AllByRecursion IsGroupLine gs) (missed_at v then line_at end_in) (λ x. missed_lines x.0 ++ ((codes "end" ∷ []) ∷ [])) (λ x. IsMissing v x.0 × Unit {0})
-      (groups_spells count few) (then_spells (missed_at v) missed_lines (IsMissing v) (line_at end_in) (λ t. (codes "end" ∷ []) ∷ []) (λ t. Unit {0}) (missed_spells v) end_spells)
+  last_spells : (count : ℕ) (v : Verdict) → count ≤ 2 ^ 64 → Spells (lines_at (λ k. group_in) count 0 then (read_missed v then line_at end_in)) last_lines (IsLast count v)
+  last_spells count v few = then_spells (lines_at (λ k. group_in) count 0) (map group_words) (λ gs. (length gs ≡ count) × AllByRecursion IsGroupLine gs) (read_missed v then line_at end_in) (λ x. missed_lines x.0 ++ ((codes "end" ∷ []) ∷ [])) (λ x. IsMissing v x.0 × Unit {0})
+      (groups_spells count few) (then_spells (read_missed v) missed_lines (IsMissing v) (line_at end_in) (λ t. (codes "end" ∷ []) ∷ []) (λ t. Unit {0}) (missed_spells v) end_spells)
 
   last_starts : (count : ℕ) (v : Verdict) (x : Last) → IsLast count v x → (rest : List (List ℕ)) → IsOther (map spaced (last_lines x) ++ rest)
   last_starts count v (g ∷ gs, (m, t)) fit rest = ap is_tree_line (hold.words_again (group_words g) tt ((group_form hold).plain g fit.0.1.0))

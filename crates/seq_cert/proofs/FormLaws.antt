@@ -22,7 +22,7 @@ use Rattle.seq_cert.specs.declared.report.TreeLine.TheVariants.{Ask, Leaf}
 use Rattle.sig_lines.specs.declared.labels.TestLabel.{TestLabel}
 use Rattle.seq_cert.specs.LineForms.{most_32, most_64, both, is_in, is_label, is_mode, keyed, numbered, title_in, title_from, mode_word_in, mode_in, verdict_in, result_in, state_from, state_in, group_of, group_from, group_in, class_from, class_in, test_from, test_in, tree_from, tree_line_in, is_tree_line, missed_of, missed_from, missed_in, end_from, end_in}
 use Rattle.seq_cert.specs.Text.{title_words, mode_words, result_words, state_words, hex_word, group_words, class_words, tree_words, missed_words}
-use Rattle.seq_cert.specs.ReportForm.{InRange, IsState, IsGroup, IsGroupLine, IsClassLine, IsTest, IsMissed}
+use Rattle.seq_cert.specs.ReportForm.{InRange, IsState, IsGroup, IsGroupLine, IsClassLine, IsTest, IsMissedLine}
 use Rattle.seq_cert.proofs.AllBytes.{text_is, text_self}
 use Rattle.seq_cert.proofs.Spells.{IsForm}
 
@@ -321,7 +321,7 @@ module _ (hold : LinesHold) where
 
   -- ---- the last lines
 
-  pub missed_form : IsForm missed_in missed_words IsMissed
+  pub missed_form : IsForm missed_in missed_words IsMissedLine
   missed_form = record {
     takes = λ words m e. taken words m (three words) refl e;
     again = λ m fit.
@@ -334,7 +334,7 @@ module _ (hold : LinesHold) where
     plain = λ m fit. let s = fit.size in (plain_label (codes "missed") refl, (hold.number_plain m.size (omega arith), (hold.hex_plain (number_of_words (m.group).0), tt)));
   }
     where
-      taken : (words : List (List ℕ)) (m : MissedLine) (o : Option (List ℕ × List ℕ × List ℕ)) → three words ≡ o → missed_from o ≡ Some m → (words ≡ missed_words m) × IsMissed m
+      taken : (words : List (List ℕ)) (m : MissedLine) (o : Option (List ℕ × List ℕ × List ℕ)) → three words ≡ o → missed_from o ≡ Some m → (words ≡ missed_words m) × IsMissedLine m
       taken words m None is e = absurd (let bad : ⊥ = cc in bad)
       taken words m (Some x) is e =
           let c = chosen (bytes_eq x.0 (codes "missed")) (option_map missed_of (both (number_in 0 most_32 x.1) (hex_in x.2))) m e in
@@ -342,7 +342,7 @@ module _ (hold : LinesHold) where
           let q = both_are (number_in 0 most_32 x.1) (hex_in x.2) p.0 p.1 in
           let size = hold.number 0 most_32 x.1 p.0.0 q.0 in
           let h = hex_takes x.2 p.0.1 q.1 in
-          subst (λ (y : MissedLine). (words ≡ missed_words y) × IsMissed y) p.2 (
+          subst (λ (y : MissedLine). (words ≡ missed_words y) × IsMissedLine y) p.2 (
             hold.three_are words x is ∙ ap (λ w. w ∷ x.1 ∷ x.2 ∷ []) (text_is x.0 (codes "missed") c.0) ∙ ap (λ w. codes "missed" ∷ w ∷ x.2 ∷ []) size.is
                 ∙ ap (λ w. codes "missed" ∷ decimal p.0.0 ∷ w ∷ []) h.0,
             record { size = size.high; group = h.1 },

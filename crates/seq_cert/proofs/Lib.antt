@@ -13,3 +13,4 @@ pub mod BodyLaws
 pub mod Ends
 pub mod WrittenForm
 pub mod Loops
+mod PlaceLaws

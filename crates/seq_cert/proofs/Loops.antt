@@ -10,7 +10,8 @@ use Rattle.seq_cert.specs.declared.report.ClassLine.{ClassLine}
 use Rattle.seq_cert.specs.declared.report.TreeLine.{TreeLine}
 use Rattle.sig_lines.specs.Pieces.{words_in}
 use Rattle.seq_cert.specs.LineForms.{state_in, is_tree_line, tree_line_in}
-use Rattle.seq_cert.specs.Reading.{Fails, lines_at, states_at, class_at, classes_at, asks_after, with_asks, tree_at}
+use Rattle.seq_cert.specs.Reading.{Fails, lines_at, states_at, class_at, classes_at, read_tree}
+use Rattle.seq_cert.specs.Places.{asks_after, with_asks}
 
 -- what was read before, and what is still read
 abbrev pub with_front : {A : Type 0} → List A → Reading (List A) → Reading (List A)
@@ -130,16 +131,16 @@ classes_done front room count i c total le so_far =
 
 -- tree lines
 pub tree_goes_on : (front : List TreeLine) (asks left number : ℕ) (tail l : List ℕ) (ls : List (List ℕ)) (a : TreeLine) (total : Reading (List TreeLine)) → is_tree_line (words_in l) ≡ true → tree_line_in (words_in l) ≡ Some a → asks_after asks a ≡ Some left
-    → with_front front (tree_at asks (record { number = number; lines = l ∷ ls; tail = tail })) ≡ total → with_front (front ++ a ∷ []) (tree_at left (record { number = number + 1; lines = ls; tail = tail })) ≡ total
+    → with_front front (read_tree asks (record { number = number; lines = l ∷ ls; tail = tail })) ≡ total → with_front (front ++ a ∷ []) (read_tree left (record { number = number + 1; lines = ls; tail = tail })) ≡ total
 tree_goes_on front asks left number tail l ls a total is some more so_far =
-    let step : tree_at asks (record { number = number; lines = l ∷ ls; tail = tail }) ≡ (tree_at left (record { number = number + 1; lines = ls; tail = tail }) >>= λ rest. Ok (a ∷ rest.0, rest.1)) = rw (is, some, more) refl in
-    sym (ap (with_front front) step ∙ regroup front a (tree_at left (record { number = number + 1; lines = ls; tail = tail }))) ∙ so_far
+    let step : read_tree asks (record { number = number; lines = l ∷ ls; tail = tail }) ≡ (read_tree left (record { number = number + 1; lines = ls; tail = tail }) >>= λ rest. Ok (a ∷ rest.0, rest.1)) = rw (is, some, more) refl in
+    sym (ap (with_front front) step ∙ regroup front a (read_tree left (record { number = number + 1; lines = ls; tail = tail }))) ∙ so_far
 
-pub tree_breaks : (front : List TreeLine) (asks number : ℕ) (tail l : List ℕ) (ls : List (List ℕ)) (total : Reading (List TreeLine)) → is_tree_line (words_in l) ≡ true → with_asks asks (tree_line_in (words_in l)) ≡ None → with_front front (tree_at asks (record { number = number; lines = l ∷ ls; tail = tail })) ≡ total → total ≡ Err number
+pub tree_breaks : (front : List TreeLine) (asks number : ℕ) (tail l : List ℕ) (ls : List (List ℕ)) (total : Reading (List TreeLine)) → is_tree_line (words_in l) ≡ true → with_asks asks (tree_line_in (words_in l)) ≡ None → with_front front (read_tree asks (record { number = number; lines = l ∷ ls; tail = tail })) ≡ total → total ≡ Err number
 tree_breaks front asks number tail l ls total is none so_far = sym so_far ∙ rw (is, none) refl
 
-pub tree_ends : (front : List TreeLine) (asks number : ℕ) (tail l : List ℕ) (ls : List (List ℕ)) (total : Reading (List TreeLine)) → is_tree_line (words_in l) ≡ false → with_front front (tree_at asks (record { number = number; lines = l ∷ ls; tail = tail })) ≡ total → total ≡ Ok (front, record { number = number; lines = l ∷ ls; tail = tail })
+pub tree_ends : (front : List TreeLine) (asks number : ℕ) (tail l : List ℕ) (ls : List (List ℕ)) (total : Reading (List TreeLine)) → is_tree_line (words_in l) ≡ false → with_front front (read_tree asks (record { number = number; lines = l ∷ ls; tail = tail })) ≡ total → total ≡ Ok (front, record { number = number; lines = l ∷ ls; tail = tail })
 tree_ends front asks number tail l ls total other so_far = sym so_far ∙ rw other (ap (λ (k : List TreeLine). Ok (k, record { number = number; lines = l ∷ ls; tail = tail })) (append-nil front))
 
-pub tree_runs_out : (front : List TreeLine) (asks number : ℕ) (tail : List ℕ) (total : Reading (List TreeLine)) → with_front front (tree_at asks (record { number = number; lines = []; tail = tail })) ≡ total → total ≡ Ok (front, record { number = number; lines = []; tail = tail })
+pub tree_runs_out : (front : List TreeLine) (asks number : ℕ) (tail : List ℕ) (total : Reading (List TreeLine)) → with_front front (read_tree asks (record { number = number; lines = []; tail = tail })) ≡ total → total ≡ Ok (front, record { number = number; lines = []; tail = tail })
 tree_runs_out front asks number tail total so_far = sym so_far ∙ ap (λ (k : List TreeLine). Ok (k, record { number = number; lines = []; tail = tail })) (append-nil front)

@@ -25,12 +25,12 @@ use Rattle.seq_inst.specs.declared.outcome.Verdict.TheVariants.{Optimal, Bounded
 use Rattle.seq_cert.specs.declared.report.TreeLine.{TreeLine}
 use Rattle.seq_cert.specs.declared.report.TreeLine.TheVariants.{Ask, Leaf}
 use Rattle.seq_cert.specs.LineForms.{most_32, most_64, is_label}
-use Rattle.seq_cert.specs.ReportForm.{IsState, AreClasses, IsTest, AreTreeLines, IsGroupLine, IsMissed, IsMissing, IsReport}
+use Rattle.seq_cert.specs.ReportForm.{IsState, AreClasses, IsTest, AreTreeLines, IsGroupLine, IsMissedLine, IsMissing, IsReport}
 use Rattle.seq_cert.specs.Order.{in_order}
 use Rattle.seq_cert.specs.TreeLines.{goal_at, tree_lines}
 use Rattle.seq_cert.specs.OutcomeReport.{is_of, state_line, class_line, row_line, missed_line, report_from}
 use Rattle.seq_cert.specs.LabelsOf.{AreLabelsOf, no_test}
-use Rattle.seq_cert.specs.Printable.{IsMissedAt, IsPrintable, AreNumbers}
+use Rattle.seq_cert.specs.Printable.{IsMissedAt, IsPrintable, FitWords}
 use Rattle.seq_cert.proofs.FormLaws.{IsTreeLine}
 use Rattle.seq_cert.proofs.OrderLaws.{groups_counted}
 
@@ -157,7 +157,7 @@ module _ (p : Problem) (sized : IsSized p) (w : IsWeighed p) (few : p.tests ≤ 
 
 -- ---- the whole
 
-missing_fits : (v : Verdict) (m : Option Group) → IsMissedAt v m → IfSome (option_map missed_line m) IsMissed → IsMissing v (option_map missed_line m)
+missing_fits : (v : Verdict) (m : Option Group) → IsMissedAt v m → IfSome (option_map missed_line m) IsMissedLine → IsMissing v (option_map missed_line m)
 missing_fits Optimal None at fits = tt
 missing_fits Optimal (Some g) at fits = absurd at
 missing_fits Bounded None at fits = absurd at
@@ -183,7 +183,7 @@ weight-in p c k (suc m) le lt = elim (cases_order c k) [
   | inr (inr more) ↦ (let r = weight-in p c (suc k) m (omega arith) (omega arith) in omega arith)
 ]
 
-pub written_form : (p : Problem) (o : Outcome) (labels : Labels) → IsSized p → IsWeighed p → 1 ≤ p.classes → p.tests ≤ 256 → AreLabelsOf p labels → AsksOnly p.tests (tree_of o.strategy) → AreNumbers o → IsPrintable o labels → IsReport (report_from p o labels)
+pub written_form : (p : Problem) (o : Outcome) (labels : Labels) → IsSized p → IsWeighed p → 1 ≤ p.classes → p.tests ≤ 256 → AreLabelsOf p labels → AsksOnly p.tests (tree_of o.strategy) → FitWords o → IsPrintable o labels → IsReport (report_from p o labels)
 written_form p o labels sized w some few are there numbers fits =
     let size = sized.classes in
     let total = sized.weights in

@@ -10,3 +10,4 @@ pub mod Reading
 pub mod ReportForm
 pub mod BothWays
 pub mod BadCodes
+pub mod Places

@@ -13,7 +13,7 @@ use Rattle.seq_inst.specs.declared.outcome.Outcome.{Outcome}
 use Rattle.seq_inst.specs.declared.outcome.Verdict.{Verdict}
 use Rattle.seq_inst.specs.declared.outcome.Verdict.TheVariants.{Optimal, Bounded}
 use Rattle.seq_cert.specs.LineForms.{most_64, is_label, is_mode}
-use Rattle.seq_cert.specs.ReportForm.{InRange, IsGroupLine, IsMissed}
+use Rattle.seq_cert.specs.ReportForm.{InRange, IsGroupLine, IsMissedLine}
 use Rattle.seq_cert.specs.Order.{in_order}
 use Rattle.seq_cert.specs.OutcomeReport.{row_line, missed_line}
 
@@ -35,8 +35,8 @@ pub record IsPrintable (o : Outcome) (labels : Labels) : Type 0 where
   pub missed : IsMissedAt o.verdict o.missed
 
 -- the numbers of an outcome fit their words
-pub record AreNumbers (o : Outcome) : Type 0 where
+pub record FitWords (o : Outcome) : Type 0 where
   pub cost : o.cost ≤ most_64
   pub low : o.low ≤ most_64
   pub groups : All IsGroupLine (in_order (map row_line o.rows.items))
-  pub missed : IfSome (option_map missed_line o.missed) IsMissed
+  pub missed : IfSome (option_map missed_line o.missed) IsMissedLine

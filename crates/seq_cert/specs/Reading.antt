@@ -17,6 +17,7 @@ use Rattle.seq_cert.specs.declared.report.TreeLine.{TreeLine}
 use Rattle.seq_cert.specs.declared.report.TreeLine.TheVariants.{Ask, Leaf}
 use Rattle.seq_cert.specs.declared.report.GroupLine.{GroupLine}
 use Rattle.seq_cert.specs.declared.report.MissedLine.{MissedLine}
+use Rattle.seq_cert.specs.Places.{asks_after, with_asks}
 use Rattle.seq_cert.specs.LineForms.{most_64, numbered, title_in, mode_in, result_in, class_in, state_in, test_in, is_tree_line, tree_line_in, group_in, missed_in, end_in}
 
 -- where a reader of the code stands
@@ -88,11 +89,11 @@ states_at (suc room) count c = cond (nat_eq count 0) (Ok ([], c)) (do
   Ok (line.0 ∷ more.0, more.1))
 
 -- a class line and its state lines
-abbrev pub class_of : (ℕ × ℕ) × List StateLine → ClassLine
-class_of x = record { weight = x.0.0; states = x.1 }
+abbrev pub class_line_of : (ℕ × ℕ) × List StateLine → ClassLine
+class_line_of x = record { weight = x.0.0; states = x.1 }
 
 unfoldable pub class_at : ℕ → ℕ → Cursor → Reading ClassLine
-class_at room k c = read_as class_of (pair (line_at (class_in k)) (λ x. states_at room x.1)) c
+class_at room k c = read_as class_line_of (pair (line_at (class_in k)) (λ x. states_at room x.1)) c
 
 -- so many classes with their states, from class k on, with so much room for state lines
 unfoldable pub classes_at : ℕ → ℕ → ℕ → Cursor → Reading (List ClassLine)
@@ -101,20 +102,6 @@ classes_at room (suc count) k c = do
   class ← class_at room k c
   more ← classes_at (room - length (class.0).states) count (suc k) class.1
   Ok (class.0 ∷ more.0, more.1)
-
--- how many asks are left after a tree line
-abbrev pub asks_after : ℕ → TreeLine → Option ℕ
-asks_after asks (Leaf c) = Some asks
-asks_after zero (Ask t) = None
-asks_after (suc asks) (Ask t) = Some asks
-
-abbrev pub with_left : TreeLine → Option ℕ → Option (TreeLine × ℕ)
-with_left line None = None
-with_left line (Some left) = Some (line, left)
-
-abbrev pub with_asks : ℕ → Option TreeLine → Option (TreeLine × ℕ)
-with_asks asks None = None
-with_asks asks (Some line) = with_left line (asks_after asks line)
 
 -- a tree line, and then more of them, where so many asks are left
 abbrev pub and_more : ℕ → (ℕ → Reading (List TreeLine)) → Option (TreeLine × ℕ) → Reading (List TreeLine)
@@ -129,13 +116,13 @@ tree_lines_at asks number tail (l ∷ ls) =
     (and_more number (λ left. tree_lines_at left (number + 1) tail ls) (with_asks asks (tree_line_in (words_in l))))
     (Ok ([], record { number = number; lines = l ∷ ls; tail = tail }))
 
-abbrev pub tree_at : ℕ → Cursor → Reading (List TreeLine)
-tree_at asks c = tree_lines_at asks c.number c.tail c.lines
+abbrev pub read_tree : ℕ → Cursor → Reading (List TreeLine)
+read_tree asks c = tree_lines_at asks c.number c.tail c.lines
 
 -- the missed line, where the result is bounded
-unfoldable pub missed_at : Verdict → Cursor → Reading (Option MissedLine)
-missed_at Optimal c = Ok (None, c)
-missed_at Bounded c = do
+unfoldable pub read_missed : Verdict → Cursor → Reading (Option MissedLine)
+read_missed Optimal c = Ok (None, c)
+read_missed Bounded c = do
   line ← line_at missed_in c
   Ok (Some line.0, line.1)
 
@@ -145,7 +132,7 @@ is_nothing lines tail = nat_eq (length lines) 0 && nat_eq (length tail) 0
 
 -- what follows the first lines
 unfoldable pub body_at : Head → Cursor → Reading (List ClassLine × (List TestLabel × (List TreeLine × (List GroupLine × (Option MissedLine × Unit {0})))))
-body_at h c = (classes_at 4097 h.classes 0 then (lines_at test_in h.tests 0 then (tree_at 511 then (lines_at (λ k. group_in) h.groups 0 then (missed_at h.verdict then line_at end_in))))) c
+body_at h c = (classes_at 4097 h.classes 0 then (lines_at test_in h.tests 0 then (read_tree 511 then (lines_at (λ k. group_in) h.groups 0 then (read_missed h.verdict then line_at end_in))))) c
 
 abbrev pub report_with : Head × (List ClassLine × (List TestLabel × (List TreeLine × (List GroupLine × (Option MissedLine × Unit {0}))))) → Report
 report_with x = record {

@@ -89,7 +89,7 @@ pub record IsGroupLine (l : GroupLine) : Type 0 where
   pub group : IsGroup l.group
   pub low : l.low ≤ most_64
 
-pub record IsMissed (m : MissedLine) : Type 0 where
+pub record IsMissedLine (m : MissedLine) : Type 0 where
   pub size : m.size ≤ most_32
   pub group : IsGroup m.group
 
@@ -98,7 +98,7 @@ abbrev pub IsMissing : Verdict → Option MissedLine → Type 0
 IsMissing Optimal None = Unit {0}
 IsMissing Optimal (Some m) = ⊥
 IsMissing Bounded None = ⊥
-IsMissing Bounded (Some m) = IsMissed m
+IsMissing Bounded (Some m) = IsMissedLine m
 
 pub record IsReport (r : Report) : Type 0 where
   pub head : IsHead (head_of_report r)

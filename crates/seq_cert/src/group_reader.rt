@@ -4,7 +4,7 @@ ghost use Rattle.std.specs.Prelude.{◌≡◌};
 ghost use Rattle.sig_lines.specs.Pieces.{words_in};
 ghost use Rattle.sig_lines.specs.Reading.{line_at};
 ghost use Rattle.seq_cert.specs.LineForms.{group_in, missed_in};
-ghost use Rattle.seq_cert.specs.Reading.{Gives, place, lines_at, missed_at};
+ghost use Rattle.seq_cert.specs.Reading.{Gives, place, lines_at, read_missed};
 
 use crate::due_line::{due_line, or_bad};
 use crate::fault::ReportFault;
@@ -74,12 +74,12 @@ fn missed_of(line: &[u8]) -> Option<MissedLine>
 }
 
 /// The missed line, where the result is bounded.
-#[tactic(auto, unfolding(crate::specs::Reading::missed_at))]
+#[tactic(auto, unfolding(crate::specs::Reading::read_missed))]
 pub(crate) fn missed_at(
     verdict: Verdict,
     at: LineReader<'_>,
 ) -> Result<(Option<MissedLine>, LineReader<'_>), ReportFault>
-    ensures { Gives (λ x. (x.0, place x.1)) result (missed_at verdict (place at.entry)) }
+    ensures { Gives (λ x. (x.0, place x.1)) result (read_missed verdict (place at.entry)) }
 {
     match verdict {
         Verdict::Optimal => Ok((None, at)),

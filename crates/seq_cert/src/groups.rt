@@ -8,7 +8,7 @@ ghost use Rattle.sig_lines.specs.Written.{with_line, with_lines};
 ghost use Rattle.seq_cert.specs.Text.{group_words, missed_words, missed_lines};
 ghost use Rattle.seq_cert.specs.Order.{is_before, in_order};
 ghost use Rattle.seq_cert.specs.OutcomeReport.{row_line, missed_line};
-ghost use Rattle.seq_cert.specs.ReportForm.{IsGroup, IsGroupLine, IsMissed};
+ghost use Rattle.seq_cert.specs.ReportForm.{IsGroup, IsGroupLine, IsMissedLine};
 
 use crate::report::GroupLine;
 use seq_inst::{Group, Row, count_of, group_stands};
@@ -114,7 +114,7 @@ pub(crate) fn write_groups(alloc: Global, out: &mut Lines, rows: &[Row]) -> Resu
 /// Writes the line of the group that was missed, where there is one.
 pub(crate) fn write_missed(out: &mut Lines, missed: Option<Group>) -> Result<(), AllocError>
     ensures written { OnOk result (out.new ≡ with_lines out.old (missed_lines (option_map missed_line missed))) }
-    ensures fits { IfSome (option_map missed_line missed) IsMissed }
+    ensures fits { IfSome (option_map missed_line missed) IsMissedLine }
 {
     match missed {
         None => Ok(()),

@@ -9,7 +9,7 @@ ghost use Rattle.seq_cert.specs.Text.{report_lines, report_bytes};
 ghost use Rattle.seq_cert.specs.LineForms.{most_64};
 ghost use Rattle.seq_cert.specs.ReportForm.{IsReport};
 ghost use Rattle.seq_cert.specs.OutcomeReport.{report_from};
-ghost use Rattle.seq_cert.specs.Printable.{IsPrintable, AreNumbers};
+ghost use Rattle.seq_cert.specs.Printable.{IsPrintable, FitWords};
 
 use crate::classes::write_classes;
 use crate::groups::{write_groups, write_missed};
@@ -41,7 +41,7 @@ fn write_report(
     requires there { AsksOnly (problem_of inst.now).tests (tree_of outcome.now.strategy) }
     requires proper { outcome.now.low ≤ outcome.now.cost }
     ensures written { OnOk result (out.new ≡ with_lines out.old (report_lines (report_from (problem_of inst.now) outcome.now labels.now))) }
-    ensures numbers { OnOk result (AreNumbers outcome.now) }
+    ensures numbers { OnOk result (FitWords outcome.now) }
 {
     know_costs(outcome);
     write_head(out, inst, outcome, labels)?;

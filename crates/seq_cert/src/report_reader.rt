@@ -1,10 +1,11 @@
 //! Reading a report: Ok exactly for bytes that have its form, with the one report whose text they are;
 //! else the first line that is not of the form that its place asks. The bytes are read once from front to
 //! back, line by line, so the work is linear in them, and no room is taken by a number that was read.
-ghost use Rattle.std.specs.Prelude.{◌≡◌, ◌≤◌, length, IfOk, Ok};
+ghost use Rattle.std.specs.Prelude.{◌≡◌, ◌≤◌, length, IfOk, IfErr, Ok};
 ghost use Rattle.sig_lines.specs.Pieces.{words_in, lines_in, tail_in};
 ghost use Rattle.sig_lines.specs.Reading.{line_at};
 ghost use Rattle.seq_cert.specs.LineForms.{end_in};
+ghost use Rattle.seq_cert.specs.Places.{TellsFirstBad};
 ghost use Rattle.seq_cert.specs.Reading.{Gives, place, is_nothing, body_at, whole_at, report_at};
 ghost use Rattle.seq_cert.specs.ReportForm.{IsReport};
 ghost use Rattle.seq_cert.specs.Text.{report_lines, report_bytes};
@@ -138,8 +139,8 @@ pub fn read_report(alloc: Global, bytes: &[u8]) -> Result<Report, ReportFault>
     ensures short { IfOk result (λ r. length (report_lines r) ≤ length bytes.now) }
     // The text of a report is read, unless memory runs out.
     ensures only { (r : Report) → IsReport r → bytes.now ≡ report_bytes r → Gives (λ x. x) result (Ok r) }
-    // Which line is the first bad one.
-    ensures exact { Gives (λ x. x) result (report_at bytes.now) }
+    // What is refused has a first bad line, which is named.
+    ensures bad { IfErr result (TellsFirstBad bytes.now) }
 {
     lines_hold();
     all_of(alloc, bytes)

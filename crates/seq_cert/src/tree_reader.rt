@@ -3,7 +3,8 @@
 ghost use Rattle.std.specs.Prelude.{◌≡◌};
 ghost use Rattle.sig_lines.specs.Pieces.{words_in};
 ghost use Rattle.seq_cert.specs.LineForms.{is_tree_line, tree_line_in};
-ghost use Rattle.seq_cert.specs.Reading.{Gives, place, asks_after, tree_at};
+ghost use Rattle.seq_cert.specs.Places.{asks_after};
+ghost use Rattle.seq_cert.specs.Reading.{Gives, place, read_tree};
 
 use crate::due_line::or_bad;
 use crate::fault::ReportFault;
@@ -56,7 +57,7 @@ pub(crate) fn tree_of(
     alloc: Global,
     start: LineReader<'_>,
 ) -> Result<(List<TreeLine>, LineReader<'_>), ReportFault>
-    ensures { Gives (λ x. (x.0, place x.1)) result (tree_at 511 (place start.entry)) }
+    ensures { Gives (λ x. (x.0, place x.1)) result (read_tree 511 (place start.entry)) }
 {
     let mut lines = List::new(alloc);
     let mut at = start;

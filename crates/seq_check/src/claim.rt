@@ -18,7 +18,7 @@ ghost use Rattle.seq_check.specs.Listed.{AreLows};
 use crate::lows::Lows;
 use seq_cert::GroupLine;
 use seq_huff::{Estimate, Order, Scratch, ordered_bound};
-use seq_inst::{Answer, Group, Instance, group_stands, is_leaf, part, splits, weight_of};
+use seq_inst::{Group, Instance, group_stands, is_leaf, parts_of, splits, weight_of};
 
 /// The low that the first line of the group claims, if it is listed.
 fn listed(lows: &Lows, group: &Group) -> Option<u64>
@@ -72,17 +72,16 @@ fn is_reached(
     requires splits { is_split (problem_of inst.now) (members group.now) test ≡ true }
     ensures { (lines : List Line) → AreLows lows.now lines → result ≡ nat_le low (step_sum (problem_of inst.now) (claimed (problem_of inst.now) (claims_of lines)) (members group.now) test) }
 {
-    let pass_part = part(inst, group, test, Answer::Pass);
-    let fail_part = part(inst, group, test, Answer::Fail);
-    let pass_low = listed(lows, &pass_part);
-    let fail_low = listed(lows, &fail_part);
+    let parts = parts_of(inst, group, test);
+    let pass_low = listed(lows, &parts.pass);
+    let fail_low = listed(lows, &parts.fail);
     if pass_low.is_none() && fail_low.is_none() {
         if low <= estimate.least_sum(order, inst, group, test) {
             return true;
         }
     }
-    let pass = counted(scratch, order, inst, &pass_part, pass_low);
-    let fail = counted(scratch, order, inst, &fail_part, fail_low);
+    let pass = counted(scratch, order, inst, &parts.pass, pass_low);
+    let fail = counted(scratch, order, inst, &parts.fail, fail_low);
     let first = u128::from(inst.costs[test as usize]) * u128::from(weight);
     u128::from(low) <= first + (u128::from(pass) + u128::from(fail))
 }

@@ -13,7 +13,7 @@ ghost use Rattle.seq_check.specs.TreeLooks.{settles, left_after, tree_looks};
 ghost use Rattle.seq_check.specs.Walked.{IsWalked, waiting, line_cost, AreWithin};
 
 use seq_cert::{BadCode, BadLine, TreeLine, lowest_class};
-use seq_inst::{Answer, Group, Instance, is_leaf, part, root, splits, weight_of};
+use seq_inst::{Group, Instance, is_leaf, parts_of, root, splits, weight_of};
 use std::alloc::{AllocError, Global};
 
 /// What a walk over the tree lines finds.
@@ -55,8 +55,9 @@ fn settle(
     match line {
         TreeLine::Leaf { .. } => Ok(0),
         TreeLine::Ask { test } => {
-            stack.push(part(inst, group, test, Answer::Fail))?;
-            stack.push(part(inst, group, test, Answer::Pass))?;
+            let parts = parts_of(inst, group, test);
+            stack.push(parts.fail)?;
+            stack.push(parts.pass)?;
             Ok(u128::from(inst.costs[test as usize]) * u128::from(weight_of(inst, group)))
         }
     }

@@ -1,13 +1,13 @@
 -- A change of one row that keeps its group keeps the places and the fitness of the rows; in the theory's
 -- rows it is the theory's change.
-use Rattle.std.proofs.Common.{◌≡◌, ℕ, zero, suc, ◌<◌, max, min, List, [], ◌∷◌, length, get_or, set, refl, sym, ap, arith, inl, inr, subst}
+use Rattle.std.proofs.Common.{◌≡◌, ℕ, zero, suc, ◌<◌, max, min, List, [], ◌∷◌, length, get_or, set, refl, ap, arith, inl, inr, subst}
 use Rattle.seq_theory.specs.Problem.{Problem}
 use Rattle.seq_theory.specs.Rows.{Row as TheoryRow, change_at}
 use Rattle.seq_inst.specs.declared.outcome.Row.{Row}
 use Rattle.seq_inst.specs.Members.{members}
 use Rattle.seq_core.specs.Mapping.{Placed}
 use Rattle.seq_core.specs.RowsOf.{row_of, rows_of, IsFit, AreFit}
-use Rattle.seq_core.specs.Tables.{numbered}
+use Rattle.seq_core.specs.Tables.{placed_groups}
 use Rattle.seq_core.specs.Changes.{change_row, raised, capped}
 use Rattle.seq_core.proofs.TableLaws.{no_row}
 
@@ -21,9 +21,9 @@ length-change [] k f = refl
 length-change (r ∷ rest) zero f = refl
 length-change (r ∷ rest) (suc k) f = ap suc (length-change rest k f)
 
-pub numbered-change : (n : ℕ) (rows : List Row) (k : ℕ) (f : Row → Row) → ((r : Row) → (f r).group ≡ r.group) → numbered n (change_row rows k f) ≡ numbered n rows
+pub numbered-change : (n : ℕ) (rows : List Row) (k : ℕ) (f : Row → Row) → ((r : Row) → (f r).group ≡ r.group) → placed_groups n (change_row rows k f) ≡ placed_groups n rows
 numbered-change n [] k f same = refl
-numbered-change n (r ∷ rest) zero f same = ap (λ (g : List ℕ). record { group = g; place = n } ∷ numbered (suc n) rest) (ap members (same r))
+numbered-change n (r ∷ rest) zero f same = ap (λ (g : List ℕ). record { group = g; place = n } ∷ placed_groups (suc n) rest) (ap members (same r))
 numbered-change n (r ∷ rest) (suc k) f same = ap (λ (l : List Placed). record { group = members r.group; place = n } ∷ l) (numbered-change (suc n) rest k f same)
 
 pub raised-rows : (rows : List Row) (k to : ℕ) → rows_of (change_row rows k (raised to)) ≡ change_at (rows_of rows) k (λ r. record { group = r.group; low = max r.low to; up = r.up })

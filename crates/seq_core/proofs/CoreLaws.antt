@@ -2,12 +2,12 @@
 use Rattle.std.proofs.Common.{◌≡◌, ℕ, ◌<◌, ◌≤◌, List, [], ◌∷◌, length, refl, sym, ap, ◌∙◌, arith, inl, inr, subst, Option, Some, None, Result, Ok, Err}
 use Rattle.std.specs.Prelude.{Bool, true, false, cond, nat_lt, nat_le, slice_get, IsOk, OnOk}
 use Rattle.std.proofs.lemmas.Bool.{lt-ltb, le-leb, ltb-true, leb-true, true≢false}
-use Rattle.seq_theory.specs.Problem.{Problem, IsSized, IsWithin, IsWeighed, AreTold}
+use Rattle.seq_theory.specs.Problem.{Problem, IsSized, IsWithin}
+use Rattle.seq_theory.specs.Laws.{RunsHold}
 use Rattle.seq_theory.specs.Graph.{is_entered, IsReal}
 use Rattle.seq_theory.specs.Greedy.{greedy_cost}
 use Rattle.seq_theory.specs.Rows.{Row as TheoryRow, groups_of, IsRow, IsSound, IsAllowed, enter, raise, cap, after, most_low, least_up}
-use Rattle.seq_theory.proofs.LeastLaws.{least, IsLeast-least, IsLeast-one}
-use Rattle.seq_theory.proofs.RowLaws.{events-sound, none-sound, sound-bounds, wanted-within}
+use Rattle.seq_theory.proofs.RowLaws.{sound-bounds, wanted-within}
 use Rattle.seq_theory.proofs.GreedyLaws.{least-le-greedy, bound-le-least}
 use Rattle.seq_inst.specs.declared.instance.Instance.{Instance}
 use Rattle.seq_inst.specs.declared.outcome.Row.{Row}
@@ -17,8 +17,8 @@ use Rattle.seq_core.specs.declared.event.Event.{Event}
 use Rattle.seq_core.specs.declared.event.Event.TheVariants.{Enter, Raise, Cap}
 use Rattle.seq_core.specs.declared.event.Illegal.{Illegal}
 use Rattle.seq_core.specs.declared.event.Illegal.TheVariants.{Limit, TooHigh, TooLow}
-use Rattle.seq_core.specs.RowsOf.{row_of, rows_of, place_in, AreFit}
-use Rattle.seq_core.specs.Events.{event_of, EntersReal, rows_after, enter_refusal, raise_refusal, cap_refusal, refusal, answer, AreBetween}
+use Rattle.seq_core.specs.RowsOf.{row_of, rows_of, place_of_group, AreFit}
+use Rattle.seq_core.specs.Events.{event_of, EntersReal, rows_after, enter_refusal, raise_refusal, cap_refusal, refusal, answer}
 use Rattle.seq_core.proofs.TableLaws.{rows_of-more, place-found, place-absent, found-entered}
 use Rattle.seq_core.proofs.ChangeLaws.{raised-rows, capped-rows}
 
@@ -47,35 +47,23 @@ sound-fit inst limit rows s x i =
     let d = inst.stands.greedy_fits (c.0).group wc in
     record { within = within; goals = real.goals; small = omega arith }
 
--- the least cost of each row's group lies between its low and its up
-pub rows-between : (p : Problem) (limit : ℕ) (rows : List TheoryRow) → IsWeighed p → AreTold p → IsSound p limit rows → AreBetween p rows
-rows-between p limit rows weighed told s r n i l =
-    let b = sound-bounds p limit rows r weighed told s i in
-    let e = IsLeast-one p r.group (least p r.group) n (IsLeast-least p r.group told (wanted-within p r.group (s.real r i).wanted)) l in
-    let b0 = b.0 in
-    let b1 = b.1 in
-    (omega arith, omega arith)
-
-pub sound-none : (p : Problem) (limit : ℕ) → IsSound p limit (rows_of [])
-sound-none p limit = none-sound p limit
-
 pub after-rows : (rows : List Row) (e : Event) → rows_of (rows_after rows e) ≡ after (rows_of rows) (event_of e)
 after-rows rows (Enter group) = rows_of-more rows _
 after-rows rows (Raise place to) = raised-rows rows place to
 after-rows rows (Cap place to) = capped-rows rows place to
 
 -- an allowed event keeps the rows sound
-pub sound-after : (inst : Instance) (limit : ℕ) (old new : List Row) (e : Event) → IsSound (problem_of inst) limit (rows_of old) → IsAllowed (problem_of inst) limit (rows_of old) (event_of e) → new ≡ rows_after old e → IsSound (problem_of inst) limit (rows_of new)
-sound-after inst limit old new e s a is =
+pub sound-after : RunsHold → (inst : Instance) (limit : ℕ) (old new : List Row) (e : Event) → IsSound (problem_of inst) limit (rows_of old) → IsAllowed (problem_of inst) limit (rows_of old) (event_of e) → new ≡ rows_after old e → IsSound (problem_of inst) limit (rows_of new)
+sound-after law inst limit old new e s a is =
     let p = problem_of inst in
-    subst (IsSound p limit) (sym (ap rows_of is ∙ after-rows old e)) (events-sound p limit (rows_of old) (event_of e ∷ []) (sized inst) inst.valid.told s (a, tt))
+    subst (IsSound p limit) (sym (ap rows_of is ∙ after-rows old e)) (law p limit (rows_of old) (event_of e ∷ []) (sized inst) inst.valid.told s (a, tt))
 
 -- ---- refused exactly where it is not allowed ----
 
-pub enter-allowed : (p : Problem) (limit : ℕ) (rows : List Row) (group : List ℕ) → IsReal p group → enter_refusal limit (rows_of rows) (place_in (rows_of rows) group) ≡ None → IsAllowed p limit (rows_of rows) (enter group)
-enter-allowed p limit rows group real e = go (place_in (rows_of rows) group) refl e
+pub enter-allowed : (p : Problem) (limit : ℕ) (rows : List Row) (group : List ℕ) → IsReal p group → enter_refusal limit (rows_of rows) (place_of_group (rows_of rows) group) ≡ None → IsAllowed p limit (rows_of rows) (enter group)
+enter-allowed p limit rows group real e = go (place_of_group (rows_of rows) group) refl e
   where
-    go : (o : Option ℕ) → place_in (rows_of rows) group ≡ o → enter_refusal limit (rows_of rows) o ≡ None → IsAllowed p limit (rows_of rows) (enter group)
+    go : (o : Option ℕ) → place_of_group (rows_of rows) group ≡ o → enter_refusal limit (rows_of rows) o ≡ None → IsAllowed p limit (rows_of rows) (enter group)
     go (Some k) is e = absurd (let bad : ⊥ = cc in bad)
     go None is e = (real, (place-absent rows group is).no_group, room (nat_lt (length (rows_of rows)) limit) refl e)
       where
@@ -83,10 +71,10 @@ enter-allowed p limit rows group real e = go (place_in (rows_of rows) group) ref
         room true y e = ltb-true (length (rows_of rows)) limit y
         room false n e = absurd (let bad : ⊥ = cc in bad)
 
-pub allowed-enter : (p : Problem) (limit : ℕ) (rows : List Row) (group : List ℕ) → IsAllowed p limit (rows_of rows) (enter group) → enter_refusal limit (rows_of rows) (place_in (rows_of rows) group) ≡ None
-allowed-enter p limit rows group a = go (place_in (rows_of rows) group) refl
+pub allowed-enter : (p : Problem) (limit : ℕ) (rows : List Row) (group : List ℕ) → IsAllowed p limit (rows_of rows) (enter group) → enter_refusal limit (rows_of rows) (place_of_group (rows_of rows) group) ≡ None
+allowed-enter p limit rows group a = go (place_of_group (rows_of rows) group) refl
   where
-    go : (o : Option ℕ) → place_in (rows_of rows) group ≡ o → enter_refusal limit (rows_of rows) o ≡ None
+    go : (o : Option ℕ) → place_of_group (rows_of rows) group ≡ o → enter_refusal limit (rows_of rows) o ≡ None
     go None is = rw (lt-ltb (length (rows_of rows)) limit a.2) refl
     go (Some k) is = absurd (
         let f = place-found rows group k is in

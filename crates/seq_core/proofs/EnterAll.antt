@@ -11,7 +11,7 @@ use Rattle.seq_theory.specs.Rows.{Row as TheoryRow}
 use Rattle.seq_theory.proofs.RowLaws.{same_group-true, same_group-refl}
 use Rattle.seq_inst.specs.declared.outcome.Row.{Row}
 use Rattle.seq_inst.specs.Members.{members}
-use Rattle.seq_core.specs.RowsOf.{rows_of, place_in}
+use Rattle.seq_core.specs.RowsOf.{rows_of, place_of_group}
 use Rattle.seq_core.specs.Changes.{new_row}
 use Rattle.seq_core.specs.Settled.{groups_in, first_row, row_at}
 
@@ -23,7 +23,7 @@ pub groups-fresh : (rows : List Row) → groups_in (fresh rows) ≡ groups_in ro
 groups-fresh [] = refl
 groups-fresh (r ∷ rest) = ap (λ (l : List (List ℕ)). members r.group ∷ l) (groups-fresh rest)
 
-none-place : (rows : List TheoryRow) (g : List ℕ) → is_entered (groups_of rows) g ≡ false → place_in rows g ≡ None
+none-place : (rows : List TheoryRow) (g : List ℕ) → is_entered (groups_of rows) g ≡ false → place_of_group rows g ≡ None
 none-place [] g e = refl
 none-place (r ∷ rest) g e = let s = or_parts (same_group g r.group) (is_entered (groups_of rest) g) e in rw s.0 (ap (option_map suc) (none-place rest g s.1))
 
@@ -43,7 +43,7 @@ not-before [] k d lt = absurd (let bad : ⊥ = omega arith in bad)
 not-before (r ∷ rest) zero d lt = refl
 not-before (r ∷ rest) (suc k) d lt = rw (not-same-at rest (members r.group) k (omega arith) d.0) (not-before rest k d.1 (omega arith))
 
-pub absent-next : (rows : List Row) (k : ℕ) → AreDistinct (groups_in rows) → k < length rows → place_in (rows_of (fresh (take k rows))) (members (row_at rows k).group) ≡ None
+pub absent-next : (rows : List Row) (k : ℕ) → AreDistinct (groups_in rows) → k < length rows → place_of_group (rows_of (fresh (take k rows))) (members (row_at rows k).group) ≡ None
 absent-next rows k d lt =
     let g = members (row_at rows k).group in
     none-place (rows_of (fresh (take k rows))) g (subst (λ gs. is_entered gs g ≡ false) (sym (groups-fresh (take k rows))) (not-before rows k d lt))

@@ -6,6 +6,7 @@ pub mod SumLaws
 pub mod CoreLaws
 pub mod SettleLaws
 pub mod SettleSteps
+pub mod TurnLaws
 pub mod EnterAll
 pub mod EventLaws
 pub mod ExampleLaws

@@ -10,7 +10,7 @@ use Rattle.seq_theory.specs.Problem.{Problem, IsWithin, pass_part, fail_part, sp
 use Rattle.seq_theory.specs.Bound.{bound, step_sum}
 use Rattle.seq_theory.specs.Greedy.{greedy_cost}
 use Rattle.seq_theory.specs.Graph.{is_entered, low, val, step_value, sum_with}
-use Rattle.seq_theory.specs.Rows.{row_of as theory_row}
+use Rattle.seq_theory.specs.Rows.{row_for as theory_row}
 use Rattle.seq_theory.specs.Rows.{no_value, IsSound, low_or, up_or, known_low, known_up, most_low, least_up}
 use Rattle.seq_theory.proofs.GroupLaws.{pass_part_smaller, fail_part_smaller}
 use Rattle.seq_theory.proofs.PartsRecursion.{map-agree, filter_map-agree, step_sum-agree, splitting-splits}
@@ -22,7 +22,7 @@ use Rattle.seq_inst.specs.declared.outcome.Row.{Row}
 use Rattle.seq_inst.specs.Members.{members}
 use Rattle.seq_inst.specs.Instances.{problem_of}
 use Rattle.seq_huff.specs.Bounds.{greatest_cost}
-use Rattle.seq_core.specs.RowsOf.{row_of, rows_of, place_in}
+use Rattle.seq_core.specs.RowsOf.{row_of, rows_of, place_of_group}
 use Rattle.seq_core.specs.Changes.{new_row}
 use Rattle.seq_core.specs.Settled.{groups_in, value_or, AreGroups, settled_row, settled_rows, first_row, row_at, size_at, MaySettle, AreSettling, AreDoneBelow}
 use Rattle.seq_core.proofs.TableLaws.{cases_place, place-found, place-absent, row-among, found-entered}
@@ -97,7 +97,7 @@ module _ (inst : Instance) (rows now : List Row) (isDone : ℕ → Type 0) (s : 
     first : theory_row (rows_of now) part ≡ Some (row_of (settled_row (problem_of inst) (groups_in rows) (row_at rows k)))
     same : part ≡ members (row_at rows k).group
 
-  smaller : (part : List ℕ) (k : ℕ) → length part < size → place_in (rows_of now) part ≡ Some k → Smaller part k
+  smaller : (part : List ℕ) (k : ℕ) → length part < size → place_of_group (rows_of now) part ≡ Some k → Smaller part k
   smaller part k small at =
       let f = place-found now part k at in
       let m = s.many in
@@ -111,14 +111,14 @@ module _ (inst : Instance) (rows now : List Row) (isDone : ℕ → Type 0) (s : 
         same = same;
       }
 
-  absent : (part : List ℕ) → place_in (rows_of now) part ≡ None → is_entered (groups_in rows) part ≡ false
+  absent : (part : List ℕ) → place_of_group (rows_of now) part ≡ None → is_entered (groups_in rows) part ≡ false
   absent part at = subst (λ gs. is_entered gs part ≡ false) groups-same (place-absent now part at).no_group
 
   -- what a smaller group counts is its low
   pub known_low-settled : (part : List ℕ) → length part < size → known_low (problem_of inst) (rows_of now) part ≡ low (problem_of inst) (groups_in rows) part
   known_low-settled part small = elim (cases_Bool (is_end (problem_of inst) part)) [
     | inl e ↦ rw e (sym (low-end (problem_of inst) (groups_in rows) part e))
-    | inr e ↦ elim (cases_place (place_in (rows_of now) part)) [
+    | inr e ↦ elim (cases_place (place_of_group (rows_of now) part)) [
       | inl none ↦ rw e (ap (low_or (bound (problem_of inst) part)) (place-absent now part none).no_row ∙ sym (low-other (problem_of inst) (groups_in rows) part e (absent part none)))
       | inr found ↦
           (let f = smaller part found.0 small found.1 in
@@ -132,7 +132,7 @@ module _ (inst : Instance) (rows now : List Row) (isDone : ℕ → Type 0) (s : 
   pub known_up-settled : (part : List ℕ) → length part < size → known_up (problem_of inst) (rows_of now) part ≡ val (problem_of inst) (groups_in rows) part
   known_up-settled part small = elim (cases_Bool (is_end (problem_of inst) part)) [
     | inl e ↦ rw e (sym (val-end (problem_of inst) (groups_in rows) part e))
-    | inr e ↦ elim (cases_place (place_in (rows_of now) part)) [
+    | inr e ↦ elim (cases_place (place_of_group (rows_of now) part)) [
       | inl none ↦ rw e (ap up_or (place-absent now part none).no_row ∙ sym (val-other (problem_of inst) (groups_in rows) part e (absent part none)))
       | inr found ↦
           (let f = smaller part found.0 small found.1 in

@@ -15,12 +15,11 @@ use Rattle.seq_inst.specs.declared.outcome.Row.{Row}
 use Rattle.seq_inst.specs.Members.{members}
 use Rattle.seq_inst.specs.Instances.{problem_of}
 use Rattle.seq_huff.specs.Bounds.{greatest_cost}
-use Rattle.seq_huff.specs.Orders.{IsUpwardBy}
 use Rattle.seq_theory.proofs.CountedLaws.{counted-length, counted-there, counted-below}
 use Rattle.seq_core.specs.RowsOf.{row_of, rows_of, IsFit, AreFit}
 use Rattle.seq_core.specs.Changes.{new_row, change_row, raised, capped}
 use Rattle.seq_core.specs.Allowed.{IsMostLow, IsLeastUp, tight_row, tightened}
-use Rattle.seq_core.specs.Settled.{groups_in, value_or, AreGroups, settled_row, settled_rows, first_row, row_at, size_at, sizes_of, AreDoneBelow, IsAmongFirst, IsSettledTo}
+use Rattle.seq_core.specs.Settled.{groups_in, value_or, AreGroups, settled_row, settled_rows, first_row, row_at, size_at, sizes_of, AreDoneBelow, IsAmongFirst, IsSettledTo, IsBySize}
 use Rattle.seq_core.proofs.TableLaws.{get-row, row-among}
 use Rattle.seq_core.proofs.ChangeLaws.{fit-change, length-change}
 use Rattle.seq_core.proofs.SettleLaws.{HasValue, group-at, value-at, raised-settled, capped-settled, settled-more, settled-all, fresh-settling}
@@ -67,14 +66,11 @@ low-fits inst entered g within =
     let c = inst.stands.greedy_fits g within in
     omega arith
 
-abbrev pub HasOrder : List Row → List ℕ → Type 0
-HasOrder rows order = IsUpwardBy (length rows) (λ k. slice_index (sizes_of rows) k) order
-
 size-read : (rows : List Row) (k : ℕ) → k < length rows → slice_index (sizes_of rows) k ≡ size_at rows k
 size-read rows k lt = get_or-map (λ (r : Row). length (members r.group)) rows k first_row 0 lt
 
 -- what is smaller than the group whose turn it is had its turn
-pub turns-below : (rows : List Row) (order : List ℕ) (n : ℕ) → HasOrder rows order → n < length order → AreDoneBelow rows (IsAmongFirst order n) (size_at rows (slice_index order n))
+pub turns-below : (rows : List Row) (order : List ℕ) (n : ℕ) → IsBySize rows order → n < length order → AreDoneBelow rows (IsAmongFirst order n) (size_at rows (slice_index order n))
 turns-below rows order n by lt j there less =
     let many = counted-length (length rows) order by.each_once in
     let at = counted-there (length rows) order by.each_once j there in
@@ -98,7 +94,7 @@ turns-next order n j d = elim (cases_lt d.0 n) [
 ]
 
 -- at the end all had theirs
-pub turns-all : (rows : List Row) (order : List ℕ) (n : ℕ) → HasOrder rows order → n ≡ length order → (k : ℕ) → k < length rows → IsAmongFirst order n k
+pub turns-all : (rows : List Row) (order : List ℕ) (n : ℕ) → IsBySize rows order → n ≡ length order → (k : ℕ) → k < length rows → IsAmongFirst order n k
 turns-all rows order n by e k lt =
     let many = counted-length (length rows) order by.each_once in
     let at = counted-there (length rows) order by.each_once k lt in
@@ -111,7 +107,7 @@ fresh-fit p [] within goals x i = absurd i
 fresh-fit p (r ∷ rest) within goals x (inl e) = subst (IsFit p) e (record { within = within (row_of r) (inl refl); goals = goals (row_of r) (inl refl); small = omega arith })
 fresh-fit p (r ∷ rest) within goals x (inr i) = fresh-fit p rest (λ y j. within y (inr j)) (λ y j. goals y (inr j)) x i
 
-pub settled-next : (inst : Instance) (rows now : List Row) (order : List ℕ) (n : ℕ) → HasOrder rows order → n < length order → IsSettledTo (problem_of inst) rows now order n
+pub settled-next : (inst : Instance) (rows now : List Row) (order : List ℕ) (n : ℕ) → IsBySize rows order → n < length order → IsSettledTo (problem_of inst) rows now order n
     → IsSettledTo (problem_of inst) rows (tightened (problem_of inst) now (slice_index order n)) order (n + 1)
 settled-next inst rows now order n by lt s =
     let p = problem_of inst in
@@ -157,7 +153,7 @@ settled-none inst rows now order groups is =
       };
     }
 
-pub settled-end : (p : Problem) (rows now : List Row) (order : List ℕ) (n : ℕ) → HasOrder rows order → n ≡ length order → IsSettledTo p rows now order n → now ≡ settled_rows p rows
+pub settled-end : (p : Problem) (rows now : List Row) (order : List ℕ) (n : ℕ) → IsBySize rows order → n ≡ length order → IsSettledTo p rows now order n → now ≡ settled_rows p rows
 settled-end p rows now order n by e s = settled-all p rows now (IsAmongFirst order n) s.settling (turns-all rows order n by e)
 
 -- the lows and the ups of settled rows

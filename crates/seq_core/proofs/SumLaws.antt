@@ -1,12 +1,10 @@
 -- Sums over a group's tests: the sum of one test fits a word, and the least of greedy's cost and the sums of ups is the
 -- same where sums stop at the greatest word, since greedy's cost is no greater than that.
-use Rattle.std.proofs.Common.{◌≡◌, ℕ, ◌*◌, ◌<◌, ◌≤◌, max, min, List, [], ◌∷◌, ◌++◌, length, get_or, refl, sym, ap, ◌∙◌, arith, Option, Some, None}
-use Rattle.std.specs.Prelude.{map, slice_get}
+use Rattle.std.proofs.Common.{◌≡◌, ℕ, ◌*◌, ◌<◌, ◌≤◌, min, List, [], ◌∷◌, ◌++◌, length, get_or, refl, sym, ap, ◌∙◌, arith, Option, Some, None}
+use Rattle.std.specs.Prelude.{slice_get}
 use Rattle.std.specs.List.{filter_map, cons_option}
-use Rattle.seq_theory.specs.Problem.{Problem, IsWithin, weight_of, least_of, splitting}
-use Rattle.seq_theory.specs.Bound.{step_sum, bound}
-use Rattle.seq_theory.specs.Graph.{step_value}
-use Rattle.seq_theory.specs.Rows.{no_value, known_low, known_up, most_low, least_up}
+use Rattle.seq_theory.specs.Problem.{Problem, IsWithin, weight_of, least_of}
+use Rattle.seq_theory.specs.Rows.{no_value, most_low, least_up}
 use Rattle.seq_theory.specs.Rows.{Row as TheoryRow}
 use Rattle.seq_inst.specs.declared.group.Group.{Group}
 use Rattle.seq_inst.specs.declared.instance.Instance.{Instance}

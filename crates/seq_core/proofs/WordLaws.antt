@@ -1,14 +1,8 @@
--- Groups by their words: two groups have the same words exactly where they have the same classes.
-use Rattle.std.proofs.Common.{◌≡◌, ℕ, zero, suc, List, [], ◌∷◌, ◌++◌, length, slice_get, Some, true, false, Result, Ok, Err, OnOk, IsOk, ◌⊎◌, inl, inr, refl, sym, ap, subst, ◌∙◌}
-use Rattle.std.specs.Str.{bytes_eq}
+-- Groups by their words, as they stand in a list of keys.
+use Rattle.std.proofs.Common.{◌≡◌, ℕ, zero, suc, List, [], ◌∷◌, ◌++◌, length, slice_get, Some, Result, Ok, Err, OnOk, IsOk, ◌⊎◌, inl, inr, refl, sym, ap, subst, ◌∙◌}
 use Rattle.std.specs.Map.{keys_of}
-use Rattle.std.proofs.lemmas.Bool.{cases_Bool, true≢false}
 use Rattle.std.proofs.lemmas.List.{map-append}
-use Rattle.std.proofs.lemmas.Slice.Eq.{bytes_eq-Decides}
-use Rattle.seq_theory.specs.Graph.{same_group}
-use Rattle.seq_theory.proofs.RowLaws.{same_group-true, same_group-refl}
-use Rattle.seq_inst.proofs.SameGroups.{same_members}
-use Rattle.seq_core.specs.Words.{AreItsWords, AreWords, classes_of}
+use Rattle.seq_core.specs.Words.{AreItsWords, AreWords}
 
 -- what stands in a list with one more element
 get-more : {X : Type 0} → (xs : List X) (y : X) (n : ℕ) (x : X) → slice_get (xs ++ y ∷ []) n ≡ Some x → (slice_get xs n ≡ Some x) ⊎ ((n ≡ length xs) × (x ≡ y))
@@ -21,18 +15,6 @@ get-more (z ∷ zs) y (suc n) x e = elim (get-more zs y n x e) [
 ]
 
 -- ---- groups by their words ----
-
-words-same : (a b : List ℕ) → AreItsWords a → AreItsWords b → same_group (classes_of a) (classes_of b) ≡ true → a ≡ b
-words-same a b wa wb e = same_members (record { 0 = a }) (record { 0 = b }) wa wb (same_group-true (classes_of a) (classes_of b) e)
-
-pub same-classes : (a b : List ℕ) → bytes_eq a b ≡ true → same_group (classes_of a) (classes_of b) ≡ true
-same-classes a b e = ap (λ l. same_group (classes_of a) (classes_of l)) (sym ((bytes_eq-Decides a b).0 e)) ∙ same_group-refl (classes_of a)
-
-pub other-classes : (a b : List ℕ) → AreItsWords a → AreItsWords b → bytes_eq a b ≡ false → same_group (classes_of a) (classes_of b) ≡ false
-other-classes a b wa wb n = elim (cases_Bool (same_group (classes_of a) (classes_of b))) [
-  | inr m ↦ m
-  | inl y ↦ absurd (true≢false (sym ((bytes_eq-Decides a b).1 (words-same a b wa wb y)) ∙ n))
-]
 
 pub words-more : (keys : List (List ℕ)) (words : List ℕ) → AreWords keys → AreItsWords words → AreWords (keys ++ words ∷ [])
 words-more keys words all w n l at = elim (get-more keys words n l at) [

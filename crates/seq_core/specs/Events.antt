@@ -10,7 +10,7 @@ use Rattle.seq_core.specs.declared.event.Event.{Event}
 use Rattle.seq_core.specs.declared.event.Event.TheVariants.{Enter, Raise, Cap}
 use Rattle.seq_core.specs.declared.event.Illegal.{Illegal}
 use Rattle.seq_core.specs.declared.event.Illegal.TheVariants.{Repeated, Limit, NoPlace, TooHigh, TooLow}
-use Rattle.seq_core.specs.RowsOf.{rows_of, place_in}
+use Rattle.seq_core.specs.RowsOf.{rows_of, place_of_group}
 use Rattle.seq_core.specs.Changes.{change_row, new_row, raised, capped}
 use Rattle.seq_core.specs.Tables.{Table}
 
@@ -48,7 +48,7 @@ cap_refusal p rows to (Some r) = cond (nat_le (least_up p rows r.group) to) None
 
 -- why the event is refused in these rows, if it is
 abbrev pub refusal : Problem → ℕ → List TheoryRow → Event → Option Illegal
-refusal p limit rows (Enter group) = enter_refusal limit rows (place_in rows (members group))
+refusal p limit rows (Enter group) = enter_refusal limit rows (place_of_group rows (members group))
 refusal p limit rows (Raise place to) = raise_refusal p rows to (slice_get rows place)
 refusal p limit rows (Cap place to) = cap_refusal p rows to (slice_get rows place)
 

@@ -16,9 +16,9 @@ abbrev pub rows_of : List Row → List TheoryRow
 rows_of rows = map row_of rows
 
 -- the place of the row of a group, if it has one
-abbrev pub place_in : List TheoryRow → List ℕ → Option ℕ
-place_in [] group = None
-place_in (r ∷ rest) group = cond (same_group group r.group) (Some 0) (option_map suc (place_in rest group))
+abbrev pub place_of_group : List TheoryRow → List ℕ → Option ℕ
+place_of_group [] group = None
+place_of_group (r ∷ rest) group = cond (same_group group r.group) (Some 0) (option_map suc (place_of_group rest group))
 
 -- a row of two goals or more within the classes, with a low that a sum has room for
 pub record IsFit (p : Problem) (r : TheoryRow) : Type 0 where

@@ -1,12 +1,13 @@
 -- Rows that have the low and the value that the entered groups give them.
-use Rattle.std.specs.Prelude.{◌≡◌, ℕ, ◌<◌, ◌≤◌, false, List, length, map, slice_index, slice_index_or, Option, Some, None}
+use Rattle.std.specs.Prelude.{◌≡◌, ℕ, ◌<◌, ◌≤◌, max, min, false, List, length, map, slice_index, slice_index_or, Option, Some, None}
 use Rattle.seq_theory.specs.Problem.{Problem, IsWithin, is_end}
 use Rattle.seq_theory.specs.Graph.{low, val}
-use Rattle.seq_theory.specs.Rows.{no_value, groups_of, AreDistinct, IsRow}
+use Rattle.seq_theory.specs.Rows.{no_value, groups_of, AreDistinct, IsRow, known_low, known_up, most_low, least_up}
 use Rattle.seq_theory.specs.Rows.{Row as TheoryRow}
 use Rattle.seq_inst.specs.declared.outcome.Row.{Row}
 use Rattle.seq_inst.specs.Members.{members}
 use Rattle.seq_inst.specs.Valid.{no_class}
+use Rattle.seq_huff.specs.Orders.{IsUpwardBy}
 use Rattle.seq_core.specs.RowsOf.{rows_of, AreFit}
 
 -- the groups of the rows
@@ -45,6 +46,23 @@ size_at rows k = length (members (row_at rows k).group)
 abbrev pub sizes_of : List Row → List ℕ
 sizes_of rows = map (λ r. length (members r.group)) rows
 
+-- the row of the place has the low and the value that the rows' groups give it
+abbrev pub IsSettledAt : Problem → List Row → ℕ → Type 0
+IsSettledAt p rows place = row_at rows place ≡ settled_row p (groups_in rows) (row_at rows place)
+
+-- the rows of all groups of fewer classes have theirs
+abbrev pub AreSettledBelow : Problem → List Row → ℕ → Type 0
+AreSettledBelow p rows size = (k : ℕ) → k < length rows → size_at rows k < size → IsSettledAt p rows k
+
+-- what the rows say of the group at the place where those of all smaller groups are settled: a smaller group counts its low and its
+-- value; so the row gets its low and its value where it is raised to the most, and capped to the least, that the rows allow
+pub record IsTurnOf (p : Problem) (rows : List Row) (place : ℕ) : Type 0 where
+  pub lows : (part : List ℕ) → length part < size_at rows place → known_low p (rows_of rows) part ≡ low p (groups_in rows) part
+  pub ups : (part : List ℕ) → length part < size_at rows place → known_up p (rows_of rows) part ≡ val p (groups_in rows) part
+  pub raised : max (row_at rows place).low (most_low p (rows_of rows) (members (row_at rows place).group)) ≡ low p (groups_in rows) (members (row_at rows place).group)
+  pub capped : min (row_at rows place).up (least_up p (rows_of rows) (members (row_at rows place).group)) ≡ value_or (val p (groups_in rows) (members (row_at rows place).group))
+  pub value : val p (groups_in rows) (members (row_at rows place).group) ≡ Some (least_up p (rows_of rows) (members (row_at rows place).group))
+
 -- a row that may become the settled one: of the same group, with a low that is at most the group's low and an up that is at least
 -- its value. A row of which nothing is known is such a row, each row of a sound list is, and the settled row is
 pub record MaySettle (p : Problem) (entered : List (List ℕ)) (row now : Row) : Type 0 where
@@ -66,6 +84,10 @@ AreDoneBelow rows isDone size = (j : ℕ) → j < length rows → size_at rows j
 -- the place is one of the first so many of an order
 abbrev pub IsAmongFirst : List ℕ → ℕ → ℕ → Type 0
 IsAmongFirst order n place = (s : ℕ) × (s < n) × (slice_index order s ≡ place)
+
+-- the places of the rows, by the sizes of their groups upwards
+abbrev pub IsBySize : List Row → List ℕ → Type 0
+IsBySize rows order = IsUpwardBy (length rows) (λ k. slice_index (sizes_of rows) k) order
 
 -- rows on the way that fit, of which those at the first so many places of an order are settled
 pub record IsSettledTo (p : Problem) (rows now : List Row) (order : List ℕ) (n : ℕ) : Type 0 where

@@ -11,6 +11,6 @@ pub record Table : Type 0 where
   pub rows : List Row
 
 -- each row's group with its place, from a first place on
-abbrev pub numbered : ℕ → List Row → List Placed
-numbered n [] = []
-numbered n (r ∷ rest) = record { group = members r.group; place = n } ∷ numbered (suc n) rest
+abbrev pub placed_groups : ℕ → List Row → List Placed
+placed_groups n [] = []
+placed_groups n (r ∷ rest) = record { group = members r.group; place = n } ∷ placed_groups (suc n) rest

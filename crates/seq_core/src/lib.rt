@@ -17,7 +17,7 @@ mod sums;
 mod tests;
 
 pub use event::{Event, Illegal};
-pub use laws::{changes_keep, entering_helps, sound_rows_settle};
+pub use laws::{changes_keep, entering_helps, sound_rows_settle, turns_settle};
 pub use machine::Core;
 pub use places::Places;
 pub use settling::{lows, smallest_first, vals};

@@ -9,7 +9,7 @@ ghost use Rattle.seq_theory.specs.Graph.{IsReal};
 ghost use Rattle.seq_theory.specs.Rows.{IsAllowed};
 ghost use Rattle.seq_inst.specs.Members.{members};
 ghost use Rattle.seq_inst.specs.Instances.{problem_of};
-ghost use Rattle.seq_core.specs.RowsOf.{rows_of, place_in};
+ghost use Rattle.seq_core.specs.RowsOf.{rows_of, place_of_group};
 ghost use Rattle.seq_core.specs.Changes.{change_row, new_row, raised, capped};
 ghost use Rattle.seq_core.specs.Events.{event_of, EntersReal, rows_after, enter_refusal, raise_refusal, cap_refusal, refusal, answer, IsCoreOf, AreBetween};
 
@@ -17,6 +17,7 @@ use crate::event::{Event, Illegal};
 use crate::places::Places;
 use seq_huff::Scratch;
 use seq_inst::{Group, Instance, Row};
+use seq_theory::{runs_hold, sound_rows_hold};
 use std::alloc::{AllocError, Global};
 use std::marker::Model;
 
@@ -30,14 +31,14 @@ pub struct Core {
 
 impl Model for Core {
     ghost use Rattle.std.specs.Prelude.{◌≡◌, ◌^◌, ◌<◌, ◌≤◌, length, vec_capacity};
-    ghost use Rattle.seq_core.specs.Tables.{Table, numbered};
+    ghost use Rattle.seq_core.specs.Tables.{Table, placed_groups};
 
     ghost Value = { Table };
 
     ghost view = { λ c. record { room = c.index.room; rows = c.rows.items } };
 
     ghost invariant = { λ c. record {
-      numbers : c.index.placed ≡ numbered 0 c.rows.items;
+      numbers : c.index.placed ≡ placed_groups 0 c.rows.items;
       few : length c.rows.items ≤ c.index.room;
       small : c.index.room < 2 ^ 32;
       rows_room : c.index.room ≤ vec_capacity c.rows;
@@ -54,6 +55,7 @@ impl Core {
         ensures of { IfOk result (λ c. IsCoreOf (problem_of inst.now) c) }
     {
         let _ = inst;
+        runs_hold();
         Core::with_room(alloc, limit)
     }
 
@@ -71,6 +73,7 @@ impl Core {
         ensures rows { result.now ≡ self.now.rows }
         ensures between { (p : Problem) → IsWeighed p → AreTold p → IsCoreOf p self.now → AreBetween p (rows_of result.now) }
     {
+        sound_rows_hold();
         self.rows.as_slice()
     }
 
@@ -109,11 +112,12 @@ impl Core {
         requires real { IsReal (problem_of inst.now) (members group.now) }
         ensures of { IsCoreOf (problem_of inst.now) self.new }
         ensures limit { self.new.room ≡ self.old.room }
-        ensures answer { result ≡ answer (enter_refusal self.old.room (rows_of self.old.rows) (place_in (rows_of self.old.rows) (members group.now))) }
+        ensures answer { result ≡ answer (enter_refusal self.old.room (rows_of self.old.rows) (place_of_group (rows_of self.old.rows) (members group.now))) }
         ensures ok { OnOk result (self.new.rows ≡ rows_after self.old.rows (Event.Enter group.now)) }
         ensures err { OnErr result (self.new ≡ self.old) }
     {
         let _ = inst;
+        runs_hold();
         if let Some(place) = self.place_of(group) {
             return Err(Illegal::Repeated { place });
         }
@@ -140,6 +144,7 @@ impl Core {
         ensures ok { OnOk result (self.new.rows ≡ rows_after self.old.rows (Event.Raise place to)) }
         ensures err { OnErr result (self.new ≡ self.old) }
     {
+        runs_hold();
         let rows = self.len();
         if place >= rows {
             return Err(Illegal::NoPlace { rows });
@@ -167,6 +172,7 @@ impl Core {
         ensures ok { OnOk result (self.new.rows ≡ rows_after self.old.rows (Event.Cap place to)) }
         ensures err { OnErr result (self.new ≡ self.old) }
     {
+        runs_hold();
         let rows = self.len();
         if place >= rows {
             return Err(Illegal::NoPlace { rows });
@@ -195,14 +201,14 @@ impl Core {
 
     /// The place of the group, if it was entered.
     fn place_of(&self, group: &Group) -> Option<u32>
-        ensures { result ≡ place_in (rows_of self.now.rows) (members group.now) }
+        ensures { result ≡ place_of_group (rows_of self.now.rows) (members group.now) }
     {
         self.index.find(group)
     }
 
     /// Gives the group a row of which nothing is known.
     pub(crate) fn add(&mut self, group: &Group)
-        requires absent { place_in (rows_of self.old.rows) (members group.now) ≡ None }
+        requires absent { place_of_group (rows_of self.old.rows) (members group.now) ≡ None }
         requires room { length self.old.rows < self.old.room }
         ensures room { self.new.room ≡ self.old.room }
         ensures rows { self.new.rows ≡ self.old.rows ++ new_row group.now ∷ [] }

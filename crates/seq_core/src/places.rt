@@ -6,7 +6,7 @@ ghost use Rattle.seq_inst.specs.Members.{members};
 ghost use Rattle.seq_core.specs.Mapping.{place_of};
 
 use indexmap::IndexMap;
-use seq_inst::{Group, group_stands};
+use seq_inst::{Group, group_stands, same_words_hold};
 use std::alloc::{AllocError, Global};
 use std::marker::Model;
 
@@ -55,6 +55,7 @@ impl Places {
         ensures { result ≡ place_of self.now.placed (members group.now) }
     {
         group_stands(group);
+        same_words_hold();
         self.places.get(&group.0).copied()
     }
 
@@ -65,6 +66,7 @@ impl Places {
         ensures { self.new ≡ record { room = self.old.room; placed = self.old.placed ++ record { group = members group.now; place = place } ∷ [] } }
     {
         group_stands(group);
+        same_words_hold();
         let _ = self.places.insert(group.0, place);
     }
 }

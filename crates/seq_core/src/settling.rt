@@ -10,7 +10,7 @@ ghost use Rattle.seq_huff.specs.Orders.{IsUpwardBy};
 ghost use Rattle.seq_core.specs.RowsOf.{rows_of, AreFit};
 ghost use Rattle.seq_core.specs.Changes.{new_row};
 ghost use Rattle.seq_core.specs.Allowed.{tightened};
-ghost use Rattle.seq_core.specs.Settled.{groups_in, AreGroups, settled_rows, sizes_of};
+ghost use Rattle.seq_core.specs.Settled.{groups_in, AreGroups, settled_rows, sizes_of, IsBySize};
 
 use crate::machine::Core;
 use seq_huff::Scratch;
@@ -41,7 +41,7 @@ fn sizes_in(alloc: Global, rows: &[Row]) -> Result<Vec<u32>, AllocError>
 
 /// The places of the rows, from those of the smallest groups on: the order in which rows are settled.
 pub fn smallest_first(alloc: Global, rows: &[Row]) -> Result<Vec<u32>, AllocError>
-    ensures { IfOk result (λ v. IsUpwardBy (length rows.now) (λ k. slice_index (sizes_of rows.now) k) v.items) }
+    ensures { IfOk result (λ v. IsBySize rows.now v.items) }
 {
     let sizes = sizes_in(alloc, rows)?;
     by_size(alloc, sizes.as_slice())

@@ -2,10 +2,10 @@
 //! has a row counts by its row, any other by its bound, and has no up. Both numbers are the least of sums
 //! over the group's tests.
 ghost use Rattle.std.specs.Prelude.{◌≡◌, ◌<◌, ◌≤◌, length, vec_len};
-ghost use Rattle.seq_theory.specs.Problem.{IsWithin, weight_of as weight_sum};
+ghost use Rattle.seq_theory.specs.Problem.{weight_of as weight_sum};
 ghost use Rattle.seq_theory.specs.Rows.{known_low as known_low_of, known_up as known_up_of};
 ghost use Rattle.seq_inst.specs.Members.{members};
-ghost use Rattle.seq_inst.specs.Instances.{problem_of};
+ghost use Rattle.seq_inst.specs.Instances.{problem_of, IsGroupOf};
 ghost use Rattle.seq_huff.specs.Bounds.{greatest_cost};
 ghost use Rattle.seq_core.specs.RowsOf.{rows_of, AreFit};
 ghost use Rattle.seq_core.specs.Sums.{low_sum, up_sum, capped_value, lesser};
@@ -13,7 +13,7 @@ ghost use Rattle.seq_core.specs.Allowed.{IsMostLow, IsLeastUp};
 
 use crate::machine::Core;
 use seq_huff::{Scratch, bound, greedy_cost};
-use seq_inst::{Answer, Group, Instance, is_leaf, part, splits, weight_of};
+use seq_inst::{Group, Instance, is_leaf, parts_of, splits, weight_of};
 
 /// The lesser of an earlier number, if there is one, and a new one.
 fn lesser_of(earlier: Option<u64>, number: u64) -> u64
@@ -30,7 +30,7 @@ impl Core {
     /// bound where it has no row.
     fn known_low(&self, scratch: &mut Scratch, inst: &Instance, group: &Group) -> u64
         requires fit { AreFit (problem_of inst.now) (rows_of self.now.rows) }
-        requires within { IsWithin (problem_of inst.now) (members group.now) }
+        requires within { IsGroupOf inst.now group.now }
         ensures value { result ≡ known_low_of (problem_of inst.now) (rows_of self.now.rows) (members group.now) }
         ensures fits { result ≤ greatest_cost }
     {
@@ -71,30 +71,28 @@ impl Core {
         weight: u64,
     ) -> u64
         requires fit { AreFit (problem_of inst.now) (rows_of self.now.rows) }
-        requires within { IsWithin (problem_of inst.now) (members group.now) }
+        requires within { IsGroupOf inst.now group.now }
         requires there { test < vec_len inst.now.costs }
         requires weight { weight ≡ weight_sum (problem_of inst.now) (members group.now) }
         ensures { result ≡ low_sum (problem_of inst.now) self.now.rows (members group.now) test }
     {
-        let pass_part = part(inst, group, test, Answer::Pass);
-        let pass = self.known_low(scratch, inst, &pass_part);
-        let fail_part = part(inst, group, test, Answer::Fail);
-        let fail = self.known_low(scratch, inst, &fail_part);
+        let parts = parts_of(inst, group, test);
+        let pass = self.known_low(scratch, inst, &parts.pass);
+        let fail = self.known_low(scratch, inst, &parts.fail);
         u64::from(inst.costs[test as usize]) * weight + (pass + fail)
     }
 
     /// The sum of a test over the group, of which the weight is known, and what its parts count for an
     /// up, where both have one. A sum past the greatest word is that word.
     fn up_sum(&self, inst: &Instance, group: &Group, test: u32, weight: u64) -> Option<u64>
-        requires within { IsWithin (problem_of inst.now) (members group.now) }
+        requires within { IsGroupOf inst.now group.now }
         requires there { test < vec_len inst.now.costs }
         requires weight { weight ≡ weight_sum (problem_of inst.now) (members group.now) }
         ensures { result ≡ capped_value (up_sum (problem_of inst.now) self.now.rows (members group.now) test) }
     {
-        let pass_part = part(inst, group, test, Answer::Pass);
-        let pass = self.known_up(inst, &pass_part)?;
-        let fail_part = part(inst, group, test, Answer::Fail);
-        let fail = self.known_up(inst, &fail_part)?;
+        let parts = parts_of(inst, group, test);
+        let pass = self.known_up(inst, &parts.pass)?;
+        let fail = self.known_up(inst, &parts.fail)?;
         let first = u64::from(inst.costs[test as usize]) * weight;
         Some(first.saturating_add(pass).saturating_add(fail))
     }

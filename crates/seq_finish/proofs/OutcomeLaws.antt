@@ -96,6 +96,10 @@ module _ (p : Problem) where
   pub sound-within : (limit : ℕ) (rows : List Row) → IsSound p (length rows) (rows_from rows) → length rows ≤ limit → IsSound p limit (rows_from rows)
   sound-within limit rows s le = let few = s.few in record { few = omega arith; distinct = s.distinct; real = s.real; lows = s.lows; ups = s.ups }
 
+  -- and under their number
+  pub sound-long : (limit : ℕ) (rows : List Row) → IsSound p limit (rows_from rows) → IsSound p (length rows) (rows_from rows)
+  sound-long limit rows s = record { few = (let l = length-rows rows in omega arith); distinct = s.distinct; real = s.real; lows = s.lows; ups = s.ups }
+
   -- ---- rows that are listed afresh ----
 
   pub listed-entered : (rows : List Row) → groups_in (listed p rows) ≡ groups_in rows

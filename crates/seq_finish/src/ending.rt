@@ -19,7 +19,6 @@ ghost use Rattle.seq_finish.specs.Laws.{Stands};
 use crate::places::{bounds_of, index_of};
 use crate::strategy::strategy_of;
 use seq_graph::{Graph, Numbers, settle};
-use seq_huff::Scratch;
 use seq_inst::{Group, Instance, Outcome, Row, Verdict, root};
 use std::alloc::{AllocError, Global};
 
@@ -67,8 +66,7 @@ pub fn finish(
     ensures leaves { IfOk result (λ o. leaf_count (tree_of o.strategy) ≤ vec_len inst.now.weights) }
     ensures short { IfOk result (λ o. height (tree_of o.strategy) ≤ 512) }
 {
-    let mut scratch = Scratch::new();
-    let graph = Graph::of_rows(alloc, &mut scratch, inst, rows.as_slice())?;
+    let graph = Graph::of_rows(alloc, inst, rows.as_slice())?;
     finish_graph(alloc, inst, limit, graph, missed)
 }
 
@@ -82,7 +80,7 @@ pub fn finish_graph(
     missed: Option<Group>,
 ) -> Result<Outcome, AllocError>
     requires known { IsKnown (problem_of inst.now) graph }
-    requires few { length graph.rows.items ≤ limit }
+    requires sound { IsSound (problem_of inst.now) limit (rows_from graph.rows.items) }
     requires root { is_end (problem_of inst.now) (all_classes (problem_of inst.now)) ≡ false → is_entered (groups_in graph.rows.items) (all_classes (problem_of inst.now)) ≡ true }
     requires stopped { MayStop (problem_of inst.now) limit (groups_in graph.rows.items) missed }
     ensures right { IfOk result (IsRightOutcome (problem_of inst.now) limit) }
@@ -95,8 +93,7 @@ pub fn finish_graph(
     ensures leaves { IfOk result (λ o. leaf_count (tree_of o.strategy) ≤ vec_len inst.now.weights) }
     ensures short { IfOk result (λ o. height (tree_of o.strategy) ≤ 512) }
 {
-    let mut scratch = Scratch::new();
-    settle(alloc, &mut scratch, inst, &mut graph)?;
+    settle(alloc, inst, &mut graph)?;
     finish_settled(alloc, inst, graph.numbers, limit, graph.rows, missed)
 }
 
@@ -126,18 +123,9 @@ fn finish_settled(
     ensures leaves { IfOk result (λ o. leaf_count (tree_of o.strategy) ≤ vec_len inst.now.weights) }
     ensures short { IfOk result (λ o. height (tree_of o.strategy) ≤ 512) }
 {
-    let mut scratch = Scratch::new();
     let places = index_of(alloc, rows.as_slice())?;
     let all = root(inst);
-    let strategy = strategy_of(
-        alloc,
-        &mut scratch,
-        inst,
-        &mut numbers,
-        rows.as_slice(),
-        &places,
-        &all,
-    )?;
+    let strategy = strategy_of(alloc, inst, &mut numbers, rows.as_slice(), &places, &all)?;
     let bounds = bounds_of(inst, rows.as_slice(), &places, &all);
     let verdict = verdict_of(bounds.low, bounds.cost);
     Ok(Outcome {

@@ -2,11 +2,11 @@
 ghost use Rattle.std.specs.Prelude.{◌≡◌, ◌^◌, ◌<◌, All, IfOk, IsSome, Some, length};
 ghost use Rattle.std.specs.Option.{option_map};
 ghost use Rattle.seq_theory.specs.Graph.{low, val};
-ghost use Rattle.seq_theory.specs.Rows.{AreDistinct, row_of};
+ghost use Rattle.seq_theory.specs.Rows.{AreDistinct, row_for};
 ghost use Rattle.seq_core.specs.RowsOf.{row_of as row_from, rows_of as rows_from};
 ghost use Rattle.seq_inst.specs.Members.{members};
 ghost use Rattle.seq_inst.specs.Instances.{problem_of};
-ghost use Rattle.seq_core.specs.Tables.{numbered};
+ghost use Rattle.seq_core.specs.Tables.{placed_groups};
 ghost use Rattle.seq_core.specs.Settled.{groups_in};
 ghost use Rattle.seq_finish.specs.Outcomes.{IsSettled};
 
@@ -25,7 +25,7 @@ pub(crate) struct Bounds {
 pub(crate) fn index_of(alloc: Global, rows: &[Row]) -> Result<Places, AllocError>
     requires distinct { AreDistinct (groups_in rows.now) }
     requires few { length rows.now < 2 ^ 32 }
-    ensures { IfOk result (λ m. m.placed ≡ numbered 0 rows.now) }
+    ensures { IfOk result (λ m. m.placed ≡ placed_groups 0 rows.now) }
 {
     let mut places = Places::new(alloc, rows.len() as u32)?;
     for i in 0..rows.len() {
@@ -36,8 +36,8 @@ pub(crate) fn index_of(alloc: Global, rows: &[Row]) -> Result<Places, AllocError
 
 /// The group's row, if it has one.
 fn row_at(rows: &[Row], places: &Places, group: &Group) -> Option<Row>
-    requires { places.now.placed ≡ numbered 0 rows.now }
-    ensures { option_map row_from result ≡ row_of (rows_from rows.now) (members group.now) }
+    requires { places.now.placed ≡ placed_groups 0 rows.now }
+    ensures { option_map row_from result ≡ row_for (rows_from rows.now) (members group.now) }
 {
     match places.find(group) {
         Some(place) => Some(rows[place as usize]),
@@ -47,7 +47,7 @@ fn row_at(rows: &[Row], places: &Places, group: &Group) -> Option<Row>
 
 /// The value of the group over the entered groups: none where it was not entered.
 pub(crate) fn value_of(inst: &Instance, rows: &[Row], places: &Places, group: &Group) -> Option<u64>
-    requires placed { places.now.placed ≡ numbered 0 rows.now }
+    requires placed { places.now.placed ≡ placed_groups 0 rows.now }
     requires settled { All (IsSettled (problem_of inst.now) (groups_in rows.now)) rows.now }
     ensures { result ≡ val (problem_of inst.now) (groups_in rows.now) (members group.now) }
 {
@@ -62,7 +62,7 @@ pub(crate) fn value_of(inst: &Instance, rows: &[Row], places: &Places, group: &G
 
 /// The low and the value of a group that has a value.
 pub(crate) fn bounds_of(inst: &Instance, rows: &[Row], places: &Places, group: &Group) -> Bounds
-    requires placed { places.now.placed ≡ numbered 0 rows.now }
+    requires placed { places.now.placed ≡ placed_groups 0 rows.now }
     requires settled { All (IsSettled (problem_of inst.now) (groups_in rows.now)) rows.now }
     requires valued { IsSome (val (problem_of inst.now) (groups_in rows.now) (members group.now)) }
     ensures low { result.low ≡ low (problem_of inst.now) (groups_in rows.now) (members group.now) }

@@ -10,14 +10,13 @@ ghost use Rattle.seq_inst.specs.Members.{members};
 ghost use Rattle.seq_inst.specs.Instances.{problem_of};
 ghost use Rattle.seq_inst.specs.Trees.{tree_of};
 ghost use Rattle.seq_graph.specs.Numbered.{AreNumbers};
-ghost use Rattle.seq_core.specs.Tables.{numbered};
+ghost use Rattle.seq_core.specs.Tables.{placed_groups};
 ghost use Rattle.seq_core.specs.Settled.{groups_in};
 ghost use Rattle.seq_finish.specs.Outcomes.{IsSettled};
 
 use crate::places::value_of;
 use seq_core::Places;
 use seq_graph::Numbers;
-use seq_huff::Scratch;
 use seq_inst::{
     Answer, Group, Instance, Row, Strategy, ask_first, is_leaf, part, splits, weight_of,
 };
@@ -34,7 +33,7 @@ fn reaches(
     weight: u64,
     value: u64,
 ) -> bool
-    requires placed { places.now.placed ≡ numbered 0 rows.now }
+    requires placed { places.now.placed ≡ placed_groups 0 rows.now }
     requires settled { All (IsSettled (problem_of inst.now) (groups_in rows.now)) rows.now }
     requires within { IsWithin (problem_of inst.now) (members group.now) }
     requires there { test < vec_len inst.now.costs }
@@ -56,7 +55,7 @@ fn reaches(
 
 /// The lowest test that reaches the group's value, where greedy costs more.
 fn value_test(inst: &Instance, rows: &[Row], places: &Places, group: &Group, value: u64) -> u32
-    requires placed { places.now.placed ≡ numbered 0 rows.now }
+    requires placed { places.now.placed ≡ placed_groups 0 rows.now }
     requires settled { All (IsSettled (problem_of inst.now) (groups_in rows.now)) rows.now }
     requires within { IsWithin (problem_of inst.now) (members group.now) }
     requires value { val (problem_of inst.now) (groups_in rows.now) (members group.now) ≡ Some value }
@@ -77,7 +76,6 @@ fn value_test(inst: &Instance, rows: &[Row], places: &Places, group: &Group, val
 /// The strategy of a group that has a value.
 pub(crate) fn strategy_of(
     alloc: Global,
-    scratch: &mut Scratch,
     inst: &Instance,
     numbers: &mut Numbers,
     rows: &[Row],
@@ -85,7 +83,7 @@ pub(crate) fn strategy_of(
     group: &Group,
 ) -> Result<Strategy, AllocError>
     requires numbers { AreNumbers (problem_of inst.now) numbers.old }
-    requires placed { places.now.placed ≡ numbered 0 rows.now }
+    requires placed { places.now.placed ≡ placed_groups 0 rows.now }
     requires settled { All (IsSettled (problem_of inst.now) (groups_in rows.now)) rows.now }
     requires within { IsWithin (problem_of inst.now) (members group.now) }
     requires valued { IsSome (val (problem_of inst.now) (groups_in rows.now) (members group.now)) }
@@ -99,13 +97,13 @@ pub(crate) fn strategy_of(
         Some(value) => value,
         None => unreachable!(),
     };
-    if numbers.greedy_of(scratch, inst, group) == value {
-        return numbers.greedy_tree(alloc, scratch, inst, group);
+    if numbers.greedy_of(inst, group) == value {
+        return numbers.greedy_tree(alloc, inst, group);
     }
     let test = value_test(inst, rows, places, group, value);
     let pass_part = part(inst, group, test, Answer::Pass);
-    let pass = strategy_of(alloc, scratch, inst, numbers, rows, places, &pass_part)?;
+    let pass = strategy_of(alloc, inst, numbers, rows, places, &pass_part)?;
     let fail_part = part(inst, group, test, Answer::Fail);
-    let fail = strategy_of(alloc, scratch, inst, numbers, rows, places, &fail_part)?;
+    let fail = strategy_of(alloc, inst, numbers, rows, places, &fail_part)?;
     ask_first(alloc, test, pass, fail)
 }

@@ -1,6 +1,6 @@
 -- What a group may be capped to: the least of what the evaluated tests give is no less than the least of what all tests give, and
 -- a test of which both parts are closed gives its sum over lows.
-use Rattle.std.proofs.Common.{◌≡◌, ℕ, ◌*◌, ◌≤◌, min, List, ◌∷◌, ap, ◌∙◌, arith, Some}
+use Rattle.std.proofs.Common.{◌≡◌, ℕ, ◌*◌, ◌≤◌, List, ◌∷◌, ap, ◌∙◌, Some}
 use Rattle.std.specs.List.{filter_map}
 use Rattle.seq_theory.specs.Problem.{Problem, IsIn, least_of, splitting, pass_part, fail_part, weight_of}
 use Rattle.seq_theory.specs.Bound.{step_sum}
@@ -10,16 +10,11 @@ use Rattle.seq_theory.specs.Rows.{Row as PlainRow, known_low, known_up, least_up
 use Rattle.seq_theory.proofs.ValLaws.{least_of-first, least_of-values-le, values-at_least}
 
 module _ (p : Problem) (rows : List PlainRow) (group : List ℕ) where
-  pub cap-above : (up : ℕ) (tests : List ℕ) → ((t : ℕ) → IsIn t tests → IsIn t (splitting p group))
-      → min up (least_up p rows group) ≤ least_of (min up (greedy_cost p group) ∷ filter_map (step_value p (known_up p rows) group) tests)
-  cap-above up tests within =
+  pub cap-above : (tests : List ℕ) → ((t : ℕ) → IsIn t tests → IsIn t (splitting p group)) → least_up p rows group ≤ least_of (greedy_cost p group ∷ filter_map (step_value p (known_up p rows) group) tests)
+  cap-above tests within =
       let v = step_value p (known_up p rows) group in
       let first = least_of-first (greedy_cost p group) (filter_map v (splitting p group)) in
-      values-at_least (min up (least_up p rows group)) (min up (greedy_cost p group)) v tests (omega arith)
-      (λ t x i e. let a = least_of-values-le (greedy_cost p group) v t x (splitting p group) (within t i) e in omega arith)
-
-  pub cap-greedy : (up : ℕ) (tests : List ℕ) → least_of (min up (greedy_cost p group) ∷ filter_map (step_value p (known_up p rows) group) tests) ≤ greedy_cost p group
-  cap-greedy up tests = let first = least_of-first (min up (greedy_cost p group)) (filter_map (step_value p (known_up p rows) group) tests) in omega arith
+      values-at_least (least_up p rows group) (greedy_cost p group) v tests first (λ t x i e. least_of-values-le (greedy_cost p group) v t x (splitting p group) (within t i) e)
 
   closed-value : (t : ℕ) → known_up p rows (pass_part p t group) ≡ Some (known_low p rows (pass_part p t group)) → known_up p rows (fail_part p t group) ≡ Some (known_low p rows (fail_part p t group))
       → step_value p (known_up p rows) group t ≡ Some (step_sum p (known_low p rows) group t)

@@ -10,7 +10,7 @@ use Rattle.seq_theory.specs.Problem.{Problem, is_end, pass_part, fail_part}
 use Rattle.seq_theory.specs.Greedy.{greedy_cost}
 use Rattle.seq_theory.specs.Bound.{bound, step_sum}
 use Rattle.seq_theory.specs.Graph.{is_entered, IsReal, same_group}
-use Rattle.seq_theory.specs.Rows.{Row as PlainRow, no_value, groups_of, row_of, low_or, up_or, known_low}
+use Rattle.seq_theory.specs.Rows.{Row as PlainRow, no_value, groups_of, row_for, low_or, up_or, known_low}
 use Rattle.seq_theory.proofs.GreedyLaws.{bound-end}
 use Rattle.seq_inst.specs.declared.group.Group.{Group}
 use Rattle.seq_inst.specs.declared.instance.Instance.{Instance}
@@ -20,7 +20,7 @@ use Rattle.seq_inst.specs.Instances.{problem_of}
 use Rattle.seq_graph.specs.declared.node.Node.{Node}
 use Rattle.seq_graph.specs.KeptOf.{IsKeptOf, AreTestsOf, KeepsTests}
 use Rattle.seq_graph.specs.Numbered.{Numbered, HasNumber, AreNumbers, KeepsNumbers}
-use Rattle.seq_core.specs.RowsOf.{row_of as row_from, rows_of as rows_from, place_in}
+use Rattle.seq_core.specs.RowsOf.{row_of as row_from, rows_of as rows_from, place_of_group}
 use Rattle.seq_core.specs.Settled.{value_or}
 use Rattle.seq_graph.specs.declared.graph.Count.{Count}
 use Rattle.seq_graph.specs.Known.{AreRows, AreKept, AreKnown, count_of, no_row, row_at, group_at, raised_at, capped_at, narrowed_at, IsKeptBy}
@@ -39,9 +39,9 @@ use Rattle.seq_graph.proofs.SplitLaws.{split-at}
 -- ---- what a row gives ----
 
 -- two groups, or one group in two lists of rows, count the same where the same is found of them
-count-same : (p : Problem) (a b : List Row) (g : List ℕ) → row_of (rows_from a) g ≡ row_of (rows_from b) g → place_in (rows_from a) g ≡ place_in (rows_from b) g → count_of p a g ≡ count_of p b g
+count-same : (p : Problem) (a b : List Row) (g : List ℕ) → row_for (rows_from a) g ≡ row_for (rows_from b) g → place_of_group (rows_from a) g ≡ place_of_group (rows_from b) g → count_of p a g ≡ count_of p b g
 count-same p a b g rows places =
-    ap (λ (o : Option PlainRow). record { low = cond (is_end p g) 0 (low_or (bound p g) o); up = value_or (cond (is_end p g) (Some 0) (up_or o)); place = place_in (rows_from a) g }) rows
+    ap (λ (o : Option PlainRow). record { low = cond (is_end p g) 0 (low_or (bound p g) o); up = value_or (cond (is_end p g) (Some 0) (up_or o)); place = place_of_group (rows_from a) g }) rows
     ∙ ap (λ (o : Option ℕ). record (count_of p b g) { place = o }) places
 
 value-row : (r : PlainRow) → value_or (up_or (Some r)) ≡ r.up
@@ -50,11 +50,11 @@ value-row r = elim (cases_Bool (nat_eq r.up no_value)) [
   | inr n ↦ rw n refl
 ]
 
-pub count-row : (p : Problem) (rows : List Row) (g : List ℕ) (r : PlainRow) (o : Option ℕ) → is_end p g ≡ false → row_of (rows_from rows) g ≡ Some r → place_in (rows_from rows) g ≡ o
+pub count-row : (p : Problem) (rows : List Row) (g : List ℕ) (r : PlainRow) (o : Option ℕ) → is_end p g ≡ false → row_for (rows_from rows) g ≡ Some r → place_of_group (rows_from rows) g ≡ o
     → count_of p rows g ≡ record { low = max r.low (bound p g); up = r.up; place = o }
 count-row p rows g r o e is at = rw (e, is, at) (ap (λ n. record { low = max r.low (bound p g); up = n; place = o }) (value-row r))
 
-count-none : (p : Problem) (rows : List Row) (g : List ℕ) → row_of (rows_from rows) g ≡ None → count_of p rows g ≡ new_count p g
+count-none : (p : Problem) (rows : List Row) (g : List ℕ) → row_for (rows_from rows) g ≡ None → count_of p rows g ≡ new_count p g
 count-none p rows g is = elim (cases_Bool (is_end p g)) [
   | inl y ↦ rw (y, absent-place rows g is) (ap (λ n. record { low = n; up = 0; place = None }) (sym (bound-end p g y)))
   | inr n ↦ rw (n, is, absent-place rows g is) refl
@@ -149,10 +149,10 @@ module _ (inst : Instance) (v : Numbered) (rows : List Row) (kept : List Node) (
   raised-group : group_at (raised_at rows place low) place ≡ group_at rows place
   raised-group = ap (λ (r : Row). r.group) raised-row
 
-  same-row : (h : List ℕ) → h ≢ members (group_at rows place) → row_of (rows_from (capped_at (raised_at rows place low) place up)) h ≡ row_of (rows_from rows) h
+  same-row : (h : List ℕ) → h ≢ members (group_at rows place) → row_for (rows_from (capped_at (raised_at rows place low) place up)) h ≡ row_for (rows_from rows) h
   same-row h ne = set-others (raised_at rows place low) place _ h refl (λ e. ne (e ∙ ap members raised-group)) ∙ set-others rows place _ h refl ne
 
-  same-place : (h : List ℕ) → place_in (rows_from (capped_at (raised_at rows place low) place up)) h ≡ place_in (rows_from rows) h
+  same-place : (h : List ℕ) → place_of_group (rows_from (capped_at (raised_at rows place low) place up)) h ≡ place_of_group (rows_from rows) h
   same-place h = set-places (raised_at rows place low) place _ h refl ∙ set-places rows place _ h refl
 
   same-counts : (h : List ℕ) → h ≢ members (group_at rows place) → count_of (problem_of inst) (capped_at (raised_at rows place low) place up) h ≡ count_of (problem_of inst) rows h
@@ -164,18 +164,18 @@ module _ (inst : Instance) (v : Numbered) (rows : List Row) (kept : List Node) (
   now-long : length (capped_at (raised_at rows place low) place up) ≡ length rows
   now-long = length-Narrows rows (capped_at (raised_at rows place low) place up) narrowed.narrows
 
-  now-found : row_of (rows_from (capped_at (raised_at rows place low) place up)) (members (group_at rows place)) ≡ Some (row_from (record { group = group_at rows place; low = max (row_at rows place).low low; up = min (row_at rows place).up up }))
+  now-found : row_for (rows_from (capped_at (raised_at rows place low) place up)) (members (group_at rows place)) ≡ Some (row_from (record { group = group_at rows place; low = max (row_at rows place).low low; up = min (row_at rows place).up up }))
   now-found =
-      subst (λ (g : Group). row_of (rows_from (capped_at (raised_at rows place low) place up)) (members g) ≡ Some (row_from (row_at (capped_at (raised_at rows place low) place up) place))) (ap (λ (r : Row). r.group) now-row)
-      (row-at-place (capped_at (raised_at rows place low) place up) place narrowed.known.sound.distinct (let l = now-long in omega arith))
+      subst (λ (g : Group). row_for (rows_from (capped_at (raised_at rows place low) place up)) (members g) ≡ Some (row_from (row_at (capped_at (raised_at rows place low) place up) place))) (ap (λ (r : Row). r.group) now-row)
+      (row-at-place (capped_at (raised_at rows place low) place up) place narrowed.known.distinct (let l = now-long in omega arith))
       ∙ ap (λ (r : Row). Some (row_from r)) now-row
 
-  before : count_of (problem_of inst) rows (members (group_at rows place)) ≡ record { low = max (row_at rows place).low (bound (problem_of inst) (members (group_at rows place))); up = (row_at rows place).up; place = place_in (rows_from rows) (members (group_at rows place)) }
-  before = count-row (problem_of inst) rows (members (group_at rows place)) (row_from (row_at rows place)) (place_in (rows_from rows) (members (group_at rows place))) goals (row-at-place rows place known.rows_are.sound.distinct lt) refl
+  before : count_of (problem_of inst) rows (members (group_at rows place)) ≡ record { low = max (row_at rows place).low (bound (problem_of inst) (members (group_at rows place))); up = (row_at rows place).up; place = place_of_group (rows_from rows) (members (group_at rows place)) }
+  before = count-row (problem_of inst) rows (members (group_at rows place)) (row_from (row_at rows place)) (place_of_group (rows_from rows) (members (group_at rows place))) goals (row-at-place rows place known.rows_are.distinct lt) refl
 
   after : count_of (problem_of inst) (capped_at (raised_at rows place low) place up) (members (group_at rows place))
-      ≡ record { low = max (max (row_at rows place).low low) (bound (problem_of inst) (members (group_at rows place))); up = min (row_at rows place).up up; place = place_in (rows_from rows) (members (group_at rows place)) }
-  after = count-row (problem_of inst) (capped_at (raised_at rows place low) place up) (members (group_at rows place)) _ (place_in (rows_from rows) (members (group_at rows place))) goals now-found (same-place (members (group_at rows place)))
+      ≡ record { low = max (max (row_at rows place).low low) (bound (problem_of inst) (members (group_at rows place))); up = min (row_at rows place).up up; place = place_of_group (rows_from rows) (members (group_at rows place)) }
+  after = count-row (problem_of inst) (capped_at (raised_at rows place low) place up) (members (group_at rows place)) _ (place_of_group (rows_from rows) (members (group_at rows place))) goals now-found (same-place (members (group_at rows place)))
 
   max-swap : (a b c : ℕ) → max (max a b) c ≡ max (max a c) b
   max-swap a b c = omega arith
@@ -184,7 +184,7 @@ module _ (inst : Instance) (v : Numbered) (rows : List Row) (kept : List Node) (
       ≡ count_of (problem_of inst) (capped_at (raised_at rows place low) place up) (members (group_at rows place))
   narrowed-count =
       ap (λ (c : Count). record c { low = max c.low low; up = min c.up up }) before
-      ∙ ap (λ n. record { low = n; up = min (row_at rows place).up up; place = place_in (rows_from rows) (members (group_at rows place)) }) (max-swap (row_at rows place).low (bound (problem_of inst) (members (group_at rows place))) low)
+      ∙ ap (λ n. record { low = n; up = min (row_at rows place).up up; place = place_of_group (rows_from rows) (members (group_at rows place)) }) (max-swap (row_at rows place).low (bound (problem_of inst) (members (group_at rows place))) low)
       ∙ sym after
 
   lows-rise : (h : List ℕ) → known_low (problem_of inst) (rows_from rows) h ≤ known_low (problem_of inst) (rows_from (capped_at (raised_at rows place low) place up)) h
@@ -221,10 +221,10 @@ some-there (x ∷ xs) (suc i) lt = some-there xs i (omega arith)
 
 module _ (inst : Instance) (old new : Numbered) (rows : List Row) (kept : List Node) (counts : List Count) (known : AreKnown (problem_of inst) old rows kept counts) (numbers : AreNumbers (problem_of inst) new) (keeps : KeepsNumbers old new) where
   -- a group with a later number has no row
-  later-none : (h : List ℕ) (n : ℕ) → length old.groups ≤ n → HasNumber new h n → row_of (rows_from rows) h ≡ None
-  later-none h n le has = go (place_in (rows_from rows) h) refl
+  later-none : (h : List ℕ) (n : ℕ) → length old.groups ≤ n → HasNumber new h n → row_for (rows_from rows) h ≡ None
+  later-none h n le has = go (place_of_group (rows_from rows) h) refl
     where
-      go : (o : Option ℕ) → place_in (rows_from rows) h ≡ o → row_of (rows_from rows) h ≡ None
+      go : (o : Option ℕ) → place_of_group (rows_from rows) h ≡ o → row_for (rows_from rows) h ≡ None
       go None e = place-none rows h e
       go (Some q) e = absurd (
           let at = place-found rows h q e in
@@ -265,7 +265,7 @@ module _ (inst : Instance) (old new : Numbered) (rows : List Row) (kept : List N
       let larger : bound p (members g) ≡ max 0 (bound p (members g)) = omega arith in
       let placed : record (count_at more k.number) { up = k.greedy; place = Some place } ≡ now (members g) =
       ap (λ (c : Count). record c { up = k.greedy; place = Some place }) (here ∙ old_is) ∙ ap (λ n. record { low = bound p (members g); up = k.greedy; place = Some n }) place_is ∙ ap (λ n. record { low = n; up = k.greedy; place = Some (length rows) }) larger ∙ sym new_is in
-      let entered = entered-known inst rows g k.greedy known.rows_are real absent of.greedy in
+      let entered = entered-known inst rows g k.greedy real absent of.greedy known.rows_are in
       record {
         rows_are = entered;
         numbers_are = numbers;

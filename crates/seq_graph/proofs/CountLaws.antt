@@ -1,7 +1,7 @@
 -- What stands beside the numbers. What a group counts is read by its number; where a row is narrowed or added, the count of its
 -- group alone changes, since no two rows have one group and no two numbers either.
 use Rattle.std.proofs.Common.{◌≡◌, ◌≢◌, ℕ, suc, ◌+◌, ◌*◌, ◌<◌, ◌≤◌, ◌⊎◌, List, [], ◌∷◌, length, get_or, refl, sym, ap, ◌∙◌, arith, inl, inr, subst, Option, Some, None, map}
-use Rattle.std.specs.Prelude.{cond, nat_eq, All, slice_get, false}
+use Rattle.std.specs.Prelude.{cond, nat_eq, slice_get, false}
 use Rattle.std.specs.Option.{option_map}
 use Rattle.std.proofs.lemmas.Bool.{cases_Bool, eq-eqb, true≢false}
 use Rattle.std.proofs.lemmas.List.{length-map}
@@ -9,7 +9,7 @@ use Rattle.std.proofs.lemmas.Option.{slice_get-map, slice_get_read, slice_get_wi
 use Rattle.seq_theory.specs.Problem.{Problem, is_end, pass_part, fail_part, weight_of}
 use Rattle.seq_theory.specs.Bound.{step_sum}
 use Rattle.seq_theory.specs.Graph.{step_value, sum_with}
-use Rattle.seq_theory.specs.Rows.{Row as PlainRow, no_value, IsRow, row_of, known_low, known_up, up_or}
+use Rattle.seq_theory.specs.Rows.{Row as PlainRow, no_value, row_for, known_low, known_up, up_or}
 use Rattle.seq_huff.specs.Bounds.{greatest_cost}
 use Rattle.seq_inst.specs.declared.instance.Instance.{Instance}
 use Rattle.seq_inst.specs.declared.outcome.Row.{Row}
@@ -22,8 +22,8 @@ use Rattle.seq_graph.specs.Numbered.{Numbered, HasNumber}
 use Rattle.seq_core.specs.RowsOf.{rows_of as rows_from}
 use Rattle.seq_core.specs.Settled.{value_or}
 use Rattle.seq_graph.specs.declared.graph.Count.{Count}
-use Rattle.seq_graph.specs.Known.{AreRows, AreKnown, HasSmallUp, count_of, no_row, group_at, IsKeptBy, row_at}
-use Rattle.seq_graph.proofs.KnownLaws.{IsLight, light-group, light-pass, light-fail, known_low-small, row-within, IsRowOf, row_of-found}
+use Rattle.seq_graph.specs.Known.{AreRows, AreKnown, count_of, group_at, IsKeptBy, row_at}
+use Rattle.seq_graph.proofs.KnownLaws.{IsLight, light-group, light-pass, light-fail, known_low-small, row-within, row-bounded, IsRowOf, row_of-found}
 use Rattle.seq_graph.proofs.ChoiceLaws.{sum-fits}
 use Rattle.seq_graph.specs.Counts.{no_count, count_at}
 use Rattle.seq_graph.specs.Sums.{counted_sum, IsCountable}
@@ -66,10 +66,10 @@ pub record HasUp (rows : List Row) (g : List ℕ) (u : ℕ) : Type 0 where
   pub up_is : row.up ≡ u
   pub some : row.up ≢ no_value
 
-up-of-row : (p : Problem) (rows : List Row) (g : List ℕ) (u : ℕ) → is_end p g ≡ false → known_up p (rows_from rows) g ≡ Some u → HasUp rows g u
-up-of-row p rows g u n e = go (row_of (rows_from rows) g) refl (rw n at e)
+pub up-of-row : (p : Problem) (rows : List Row) (g : List ℕ) (u : ℕ) → is_end p g ≡ false → known_up p (rows_from rows) g ≡ Some u → HasUp rows g u
+up-of-row p rows g u n e = go (row_for (rows_from rows) g) refl (rw n at e)
   where
-    found : (r : PlainRow) → row_of (rows_from rows) g ≡ Some r → cond (nat_eq r.up no_value) None (Some r.up) ≡ Some u → HasUp rows g u
+    found : (r : PlainRow) → row_for (rows_from rows) g ≡ Some r → cond (nat_eq r.up no_value) None (Some r.up) ≡ Some u → HasUp rows g u
     found r at is = elim (cases_Bool (nat_eq r.up no_value)) [
       | inl y ↦ absurd (let h : None ≡ Some u = rw y at is in let bad : ⊥ = cc in bad)
       | inr ne ↦
@@ -78,7 +78,7 @@ up-of-row p rows g u n e = go (row_of (rows_from rows) g) refl (rw n at e)
           record { row = r; of = row_of-found (rows_from rows) g r at; up_is = same; some = λ none. true≢false (sym (eq-eqb r.up no_value none) ∙ ne) })
     ]
 
-    go : (o : Option PlainRow) → row_of (rows_from rows) g ≡ o → up_or (row_of (rows_from rows) g) ≡ Some u → HasUp rows g u
+    go : (o : Option PlainRow) → row_for (rows_from rows) g ≡ o → up_or (row_for (rows_from rows) g) ≡ Some u → HasUp rows g u
     go None is up = absurd (let h : None ≡ Some u = sym (ap up_or is) ∙ up in let bad : ⊥ = cc in bad)
     go (Some r) is up = found r is (sym (ap up_or is) ∙ up)
 
@@ -89,13 +89,9 @@ up-small p rows known g u e = elim (cases_Bool (is_end p g)) [
   | inr n ↦
       (let h = up-of-row p rows g u n e in
       let same = h.up_is in
-      elim (small-row rows known.small h.row h.of.among) [ inl none ↦ absurd (h.some none) | inr le ↦ omega arith ])
+      let small = (row-bounded p rows known h.row h.of.among).small in
+      omega arith)
 ]
-  where
-    small-row : (l : List Row) → All HasSmallUp l → (r : PlainRow) → IsRow r (rows_from l) → (r.up ≡ no_value) ⊎ (r.up ≤ greatest_cost)
-    small-row [] all r i = absurd i
-    small-row (x ∷ rest) all r (inl s) = subst (λ (y : PlainRow). (y.up ≡ no_value) ⊎ (y.up ≤ greatest_cost)) s (all 0 no_row (omega arith))
-    small-row (x ∷ rest) all r (inr i) = small-row rest (λ k d lt. all (suc k) d (omega arith)) r i
 
 module _ (p : Problem) (v : Numbered) (rows : List Row) (kept : List Node) (counts : List Count) (known : AreKnown p v rows kept counts) where
   pub up-none : (g : List ℕ) (n : ℕ) (a : Count) → HasNumber v g n → a ≡ get_or counts n a → a.up ≡ no_value → known_up p (rows_from rows) g ≡ None

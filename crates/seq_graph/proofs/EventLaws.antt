@@ -1,26 +1,28 @@
--- The code's events are the theory's, and so keep the rows sound: raising and capping a row changes one row of the list, and
--- entering adds one.
+-- What rows stay when one hears bounds, or one is added. Bounds that are true keep all bounds true. The code's events are the theory's,
+-- so those that the rows allow keep them sound: raising and capping a row changes one row of the list, and entering adds one.
 use Rattle.std.proofs.Common.{◌≡◌, ℕ, zero, suc, ◌*◌, ◌<◌, ◌≤◌, max, min, List, [], ◌∷◌, ◌++◌, length, set, refl, sym, ap, ◌∙◌, arith, inl, inr, subst, Some, length-append}
-use Rattle.std.specs.Prelude.{false, cond, slice_get}
-use Rattle.std.proofs.lemmas.Bool.{cases_Bool}
-use Rattle.std.proofs.lemmas.List.{get_or-set_same, map-append}
+use Rattle.std.specs.Prelude.{true, false, cond, slice_get}
+use Rattle.std.proofs.lemmas.Bool.{cases_Bool, true≢false, or_parts}
+use Rattle.std.proofs.lemmas.List.{get_or-set_same, set-set, map-append}
 use Rattle.std.proofs.lemmas.List.Elements.{All-set, All-push}
 use Rattle.std.proofs.Math.ListN.{length-set}
 use Rattle.seq_theory.specs.Problem.{Problem, is_end, splitting, least_of, pass_part, fail_part, weight_of}
 use Rattle.seq_theory.specs.Greedy.{greedy_cost}
 use Rattle.seq_theory.specs.Graph.{same_group, is_entered, step_value, sum_with, IsReal}
-use Rattle.seq_theory.specs.Rows.{Row as PlainRow, no_value, groups_of, IsSound, row_of, up_or, known_up, most_low, least_up, enter, raise, cap, after, change_at}
-use Rattle.seq_theory.proofs.RowLaws.{events-sound, wanted-within}
+use Rattle.seq_theory.specs.Rows.{Row as PlainRow, no_value, groups_of, IsSound, row_for, up_or, known_up, least_up, enter, raise, cap, after, change_at, AreDistinct}
+use Rattle.seq_theory.proofs.LeastLaws.{least, IsLeast-least, IsLeast-one}
+use Rattle.seq_theory.proofs.GreedyLaws.{least-le-greedy}
+use Rattle.seq_theory.proofs.RowLaws.{events-sound, wanted-within, same_group-true, same_group-refl}
 use Rattle.seq_theory.proofs.PartsRecursion.{filter_map-agree}
-use Rattle.seq_huff.specs.Bounds.{greatest_cost}
 use Rattle.seq_inst.specs.declared.group.Group.{Group}
 use Rattle.seq_inst.specs.declared.instance.Instance.{Instance}
 use Rattle.seq_inst.specs.declared.outcome.Row.{Row}
 use Rattle.seq_inst.specs.Members.{members}
 use Rattle.seq_inst.specs.Instances.{problem_of}
 use Rattle.seq_core.specs.RowsOf.{row_of as row_from, rows_of as rows_from}
-use Rattle.seq_graph.specs.Known.{AreRows, HasSmallUp, no_row, row_at, group_at, raised_at, capped_at, Narrows, IsClosedAt}
-use Rattle.seq_graph.proofs.KnownLaws.{sized, row-bounds, row-within}
+use Rattle.seq_core.specs.Settled.{groups_in}
+use Rattle.seq_graph.specs.Known.{AreRows, AreBounds, IsBounded, AreSound, Allow, no_row, row_at, group_at, heard, raised_at, capped_at, Narrows, IsClosedAt}
+use Rattle.seq_graph.proofs.KnownLaws.{sized, row-within}
 use Rattle.std.specs.List.{filter_map}
 use Rattle.seq_theory.proofs.ValLaws.{least_of-first}
 
@@ -90,7 +92,7 @@ up-Narrows (r ∷ rs) (s ∷ ss) (suc k) h lt = up-Narrows rs ss k h.3 (omega ar
 
 -- ---- raising changes no up ----
 
-up-changed : (rows : List PlainRow) (k to : ℕ) (group : List ℕ) → up_or (row_of (after rows (raise k to)) group) ≡ up_or (row_of rows group)
+up-changed : (rows : List PlainRow) (k to : ℕ) (group : List ℕ) → up_or (row_for (after rows (raise k to)) group) ≡ up_or (row_for rows group)
 up-changed [] k to group = refl
 up-changed (r ∷ rest) zero to group = elim (cases_Bool (same_group group r.group)) [ inl y ↦ rw y refl | inr n ↦ rw n refl ]
 up-changed (r ∷ rest) (suc k) to group = elim (cases_Bool (same_group group r.group)) [ inl y ↦ rw y refl | inr n ↦ rw n (up-changed rest k to group) ]
@@ -117,7 +119,7 @@ length-from : (rows : List Row) → length (rows_from rows) ≡ length rows
 length-from [] = refl
 length-from (r ∷ rest) = ap suc (length-from rest)
 
--- ---- refreshing one row ----
+-- ---- a row hears bounds ----
 
 -- what the code owes where it raises a row to low, and then caps it to up
 pub record IsRefreshed (p : Problem) (old new : List Row) (k low up : ℕ) : Type 0 where
@@ -125,62 +127,95 @@ pub record IsRefreshed (p : Problem) (old new : List Row) (k low up : ℕ) : Typ
   pub narrows : Narrows old new
   pub closes : up ≤ low → IsClosedAt new k
 
-module _ (inst : Instance) (rows : List Row) (k low up : ℕ) (known : AreRows (problem_of inst) rows) (lt : k < length rows)
-    (low_is : low ≡ most_low (problem_of inst) (rows_from rows) (members (group_at rows k)))
-    (up_is : least_up (problem_of inst) (rows_from rows) (members (group_at rows k)) ≤ up)
-    (small : up ≤ greatest_cost) where
-  raised-long : length (raised_at rows k low) ≡ length rows
-  raised-long = length-set rows k _
+groups-set : (rows : List Row) (k : ℕ) (x : Row) → x.group ≡ group_at rows k → groups_in (set rows k x) ≡ groups_in rows
+groups-set [] k x e = refl
+groups-set (r ∷ rest) zero x e = ap (λ (g : Group). members g ∷ groups_in rest) e
+groups-set (r ∷ rest) (suc k) x e = ap (λ (l : List (List ℕ)). members r.group ∷ l) (groups-set rest k x e)
 
+module _ (rows : List Row) (k low up : ℕ) (lt : k < length rows) where
   raised-row : row_at (raised_at rows k low) k ≡ record (row_at rows k) { low = max (row_at rows k).low low }
   raised-row = get_or-set_same rows k _ no_row lt
 
+  -- raised first and then capped
+  pub heard-rows : capped_at (raised_at rows k low) k up ≡ set rows k (heard low up (row_at rows k))
+  heard-rows =
+      let r = row_at rows k in
+      ap (λ (x : Row). set (raised_at rows k low) k (record x { up = min x.up up })) raised-row
+      ∙ set-set rows k (record r { low = max r.low low }) (record { group = r.group; low = max r.low low; up = min r.up up })
+
+-- bounds that are true keep the rows' bounds true
+module _ (inst : Instance) (rows : List Row) (k low up : ℕ) (known : AreRows (problem_of inst) rows) (lt : k < length rows)
+    (right : AreBounds (problem_of inst) (members (group_at rows k)) low up) where
+  heard-bounded : IsBounded (problem_of inst) (row_from (heard low up (row_at rows k)))
+  heard-bounded =
+      let old = known.each k no_row lt in
+      record {
+        real = old.real;
+        bounds = λ n is.
+            let a = old.bounds n is in
+            let b = right n is in
+            let a0 = a.0 in
+            let a1 = a.1 in
+            let b0 = b.0 in
+            let b1 = b.1 in
+            (omega arith, omega arith);
+        small = (let s = old.small in omega arith);
+      }
+
+  heard-known : AreRows (problem_of inst) (set rows k (heard low up (row_at rows k)))
+  heard-known = record {
+    distinct = subst AreDistinct (sym (groups-set rows k (heard low up (row_at rows k)) refl)) known.distinct;
+    each = All-set (λ (r : Row). IsBounded (problem_of inst) (row_from r)) rows k (heard low up (row_at rows k)) heard-bounded known.each;
+  }
+
+  pub heard-refreshed : IsRefreshed (problem_of inst) rows (set rows k (heard low up (row_at rows k))) k low up
+  heard-refreshed = record {
+    known = heard-known;
+    narrows = Narrows-set rows k (heard low up (row_at rows k)) lt refl (omega arith) (omega arith);
+    closes = λ le.
+        let p = problem_of inst in
+        let r = row_at rows k in
+        let g = members r.group in
+        let b = heard-bounded.bounds (least p g) (IsLeast-least p g inst.valid.told (row-within p rows known k lt)) in
+        let b0 : max r.low low ≤ least p g = b.0 in
+        let b1 : least p g ≤ min r.up up = b.1 in
+        subst (λ (x : Row). x.low ≡ x.up) (sym (get_or-set_same rows k (heard low up r) no_row lt)) (let e : max r.low low ≡ min r.up up = omega arith in e);
+  }
+
+  pub refreshed : IsRefreshed (problem_of inst) rows (capped_at (raised_at rows k low) k up) k low up
+  refreshed = subst (λ l. IsRefreshed (problem_of inst) rows l k low up) (sym (heard-rows rows k low up lt)) heard-refreshed
+
+-- bounds that the rows allow keep them sound
+module _ (inst : Instance) (rows : List Row) (k low up : ℕ) (sound : AreSound (problem_of inst) rows) (lt : k < length rows)
+    (allow : Allow (problem_of inst) rows (members (group_at rows k)) low up) where
+  raised-long : length (raised_at rows k low) ≡ length rows
+  raised-long = length-set rows k _
+
   raised-sound : IsSound (problem_of inst) (length rows) (rows_from (raised_at rows k low))
   raised-sound = subst (IsSound (problem_of inst) (length rows)) (sym (raised-from rows k low lt))
-      (events-sound (problem_of inst) (length rows) (rows_from rows) (raise k low ∷ []) (sized inst) inst.valid.told known.sound
-      ((row_from (row_at rows k), row-get rows k lt, (let le : low ≤ most_low (problem_of inst) (rows_from rows) (members (group_at rows k)) = omega arith in le)), tt))
+      (events-sound (problem_of inst) (length rows) (rows_from rows) (raise k low ∷ []) (sized inst) inst.valid.told sound
+      ((row_from (row_at rows k), row-get rows k lt, allow.low_allowed), tt))
 
   capped-sound : IsSound (problem_of inst) (length rows) (rows_from (capped_at (raised_at rows k low) k up))
   capped-sound =
       let lt2 : k < length (raised_at rows k low) = (let l = raised-long in omega arith) in
       let same : least_up (problem_of inst) (rows_from (raised_at rows k low)) (members (group_at rows k)) ≡ least_up (problem_of inst) (rows_from rows) (members (group_at rows k)) =
       ap (λ l. least_up (problem_of inst) l (members (group_at rows k))) (raised-from rows k low lt) ∙ least_up-raised (problem_of inst) (rows_from rows) k low (members (group_at rows k)) in
+      let cap_is = allow.up_allowed in
       subst (IsSound (problem_of inst) (length rows)) (sym (capped-from (raised_at rows k low) k up lt2))
       (events-sound (problem_of inst) (length rows) (rows_from (raised_at rows k low)) (cap k up ∷ []) (sized inst) inst.valid.told raised-sound (
         (
           row_from (row_at (raised_at rows k low) k),
           row-get (raised_at rows k low) k lt2,
-          subst (λ (r : Row). least_up (problem_of inst) (rows_from (raised_at rows k low)) (members r.group) ≤ up) (sym raised-row) (omega arith),
+          subst (λ (r : Row). least_up (problem_of inst) (rows_from (raised_at rows k low)) (members r.group) ≤ up) (sym (raised-row rows k low up lt)) (omega arith),
         ),
         tt,
       ))
 
-  capped-row : row_at (capped_at (raised_at rows k low) k up) k ≡ record { group = group_at rows k; low = max (row_at rows k).low low; up = min (row_at rows k).up up }
-  capped-row = get_or-set_same (raised_at rows k low) k _ no_row (let l = raised-long in omega arith) ∙ ap (λ (r : Row). record r { up = min r.up up }) raised-row
-
-  capped-long : length (capped_at (raised_at rows k low) k up) ≡ length rows
-  capped-long = length-set (raised_at rows k low) k _ ∙ raised-long
-
-  capped-known : AreRows (problem_of inst) (capped_at (raised_at rows k low) k up)
-  capped-known =
-      let lt2 : k < length (raised_at rows k low) = (let l = raised-long in omega arith) in
-      record {
-        sound = subst (λ n. IsSound (problem_of inst) n (rows_from (capped_at (raised_at rows k low) k up))) (sym capped-long) capped-sound;
-        small = All-set HasSmallUp (raised_at rows k low) k _ (inr (let m : min (row_at (raised_at rows k low) k).up up ≤ greatest_cost = omega arith in m)) (All-set HasSmallUp rows k _ (known.small k no_row lt) known.small);
-      }
-
-  pub is-refreshed : (new : List Row) → new ≡ capped_at (raised_at rows k low) k up → IsRefreshed (problem_of inst) rows new k low up
-  is-refreshed new is = subst (λ l. IsRefreshed (problem_of inst) rows l k low up) (sym is)
-      (let lt2 : k < length (raised_at rows k low) = (let l = raised-long in omega arith) in
-      record {
-        known = capped-known;
-        narrows = Narrows-trans rows (raised_at rows k low) (capped_at (raised_at rows k low) k up) (Narrows-set rows k _ lt refl (omega arith) (omega arith)) (Narrows-set (raised_at rows k low) k _ lt2 refl (omega arith) (omega arith));
-        closes = λ le.
-            let lt3 : k < length (capped_at (raised_at rows k low) k up) = (let l = capped-long in omega arith) in
-            let b = row-bounds (problem_of inst) (capped_at (raised_at rows k low) k up) capped-known inst.stands.weighed inst.valid.told k lt3 in
-            let between : (row_at (capped_at (raised_at rows k low) k up) k).low ≤ (row_at (capped_at (raised_at rows k low) k up) k).up = (let b0 = b.0 in let b1 = b.1 in omega arith) in
-            subst (λ (r : Row). r.low ≡ r.up) (sym capped-row) (let both = subst (λ (r : Row). r.low ≤ r.up) capped-row between in omega arith);
-      })
+  pub heard-sound : AreSound (problem_of inst) (set rows k (heard low up (row_at rows k)))
+  heard-sound =
+      subst (λ n. IsSound (problem_of inst) n (rows_from (set rows k (heard low up (row_at rows k))))) (sym (length-set rows k (heard low up (row_at rows k))))
+      (subst (λ l. IsSound (problem_of inst) (length rows) (rows_from l)) (heard-rows rows k low up lt) capped-sound)
 
 -- ---- entering a group ----
 
@@ -192,59 +227,65 @@ get-last : (rows : List PlainRow) (r : PlainRow) → slice_get (rows ++ r ∷ []
 get-last [] r = refl
 get-last (s ∷ rest) r = get-last rest r
 
+not-same : (a b : List ℕ) → same_group b a ≡ false → same_group a b ≡ false
+not-same a b e = elim (cases_Bool (same_group a b)) [
+  | inr n ↦ n
+  | inl y ↦ absurd (true≢false (sym (subst (λ g. same_group g a ≡ true) (same_group-true a b y) (same_group-refl a)) ∙ e))
+]
+
+absent-last : (h g : List ℕ) (groups : List (List ℕ)) → is_entered groups h ≡ false → same_group h g ≡ false → is_entered (groups ++ g ∷ []) h ≡ false
+absent-last h g [] e d = rw d refl
+absent-last h g (x ∷ rest) e d = let s = or_parts (same_group h x) (is_entered rest h) e in rw s.0 (absent-last h g rest s.1 d)
+
+distinct-last : (g : List ℕ) (groups : List (List ℕ)) → AreDistinct groups → is_entered groups g ≡ false → AreDistinct (groups ++ g ∷ [])
+distinct-last g [] d e = (refl, tt)
+distinct-last g (h ∷ rest) d e =
+    let s = or_parts (same_group g h) (is_entered rest g) e in
+    (absent-last h g rest d.0 (not-same h g s.0), distinct-last g rest d.1 s.1)
+
+groups-last : (rows : List Row) (r : Row) → groups_in (rows ++ r ∷ []) ≡ groups_in rows ++ members r.group ∷ []
+groups-last [] r = refl
+groups-last (x ∷ rest) r = ap (λ (l : List (List ℕ)). members x.group ∷ l) (groups-last rest r)
+
 -- a group that is entered is capped at once by what greedy costs
-pub entered-known : (inst : Instance) (rows : List Row) (g : Group) (up : ℕ) → AreRows (problem_of inst) rows → IsReal (problem_of inst) (members g) → is_entered (groups_of (rows_from rows)) (members g) ≡ false → up ≡ greedy_cost (problem_of inst) (members g)
-    → AreRows (problem_of inst) (rows ++ record { group = g; low = 0; up = up } ∷ [])
-entered-known inst rows g up known real new up_is =
-    let p = problem_of inst in
-    let row : Row = record { group = g; low = 0; up = up } in
-    let fresh : PlainRow = record { group = members g; low = 0; up = no_value } in
-    let long = length-append rows (row ∷ []) in
-    let more = length-from rows in
-    let small = inst.stands.greedy_fits g (wanted-within p (members g) real.wanted) in
-    let first = least_of-first (greedy_cost p (members g)) (filter_map (step_value p (known_up p (rows_from rows ++ fresh ∷ [])) (members g)) (splitting p (members g))) in
-    let least : min no_value up ≡ up = omega arith in
-    let same : rows_from (rows ++ row ∷ []) ≡ change_at (rows_from rows ++ fresh ∷ []) (length (rows_from rows)) (λ r. record { group = r.group; low = r.low; up = min r.up up }) =
-    map-append row_from rows (row ∷ []) ∙ ap (λ n. rows_from rows ++ record { group = members g; low = 0; up = n } ∷ []) (sym least) ∙ sym (change-last (rows_from rows) fresh (λ r. record { group = r.group; low = r.low; up = min r.up up })) in
-    record {
-      sound = subst (IsSound p (length (rows ++ row ∷ []))) (sym same)
-          (events-sound p (length (rows ++ row ∷ [])) (rows_from rows) (enter (members g) ∷ cap (length (rows_from rows)) up ∷ []) (sized inst) inst.valid.told (sound-more p (length rows) (length (rows ++ row ∷ [])) (rows_from rows) (omega arith) known.sound)
-          ((real, new, omega arith), ((fresh, get-last (rows_from rows) fresh, omega arith), tt)));
-      small = All-push HasSmallUp rows row known.small (inr (let s : up ≤ greatest_cost = omega arith in s));
-    }
+module _ (inst : Instance) (rows : List Row) (g : Group) (up : ℕ) (real : IsReal (problem_of inst) (members g)) (new : is_entered (groups_of (rows_from rows)) (members g) ≡ false) (up_is : up ≡ greedy_cost (problem_of inst) (members g)) where
+  entered-bounded : IsBounded (problem_of inst) (row_from (record { group = g; low = 0; up = up }))
+  entered-bounded =
+      let p = problem_of inst in
+      let within = wanted-within p (members g) real.wanted in
+      record {
+        real = real;
+        bounds = λ n is.
+            let e = IsLeast-one p (members g) n (least p (members g)) is (IsLeast-least p (members g) inst.valid.told within) in
+            let le = least-le-greedy p (members g) inst.valid.told within in
+            (omega arith, omega arith);
+        small = (let s = inst.stands.greedy_fits g within in omega arith);
+      }
+
+  pub entered-known : AreRows (problem_of inst) rows → AreRows (problem_of inst) (rows ++ record { group = g; low = 0; up = up } ∷ [])
+  entered-known known =
+      let row : Row = record { group = g; low = 0; up = up } in
+      record {
+        distinct = subst AreDistinct (sym (groups-last rows row)) (distinct-last (members g) (groups_in rows) known.distinct new);
+        each = All-push (λ (r : Row). IsBounded (problem_of inst) (row_from r)) rows row known.each entered-bounded;
+      }
+
+  pub entered-sound : AreSound (problem_of inst) rows → AreSound (problem_of inst) (rows ++ record { group = g; low = 0; up = up } ∷ [])
+  entered-sound sound =
+      let p = problem_of inst in
+      let row : Row = record { group = g; low = 0; up = up } in
+      let fresh : PlainRow = record { group = members g; low = 0; up = no_value } in
+      let long = length-append rows (row ∷ []) in
+      let more = length-from rows in
+      let small = inst.stands.greedy_fits g (wanted-within p (members g) real.wanted) in
+      let first = least_of-first (greedy_cost p (members g)) (filter_map (step_value p (known_up p (rows_from rows ++ fresh ∷ [])) (members g)) (splitting p (members g))) in
+      let least : min no_value up ≡ up = omega arith in
+      let same : rows_from (rows ++ row ∷ []) ≡ change_at (rows_from rows ++ fresh ∷ []) (length (rows_from rows)) (λ r. record { group = r.group; low = r.low; up = min r.up up }) =
+      map-append row_from rows (row ∷ []) ∙ ap (λ n. rows_from rows ++ record { group = members g; low = 0; up = n } ∷ []) (sym least) ∙ sym (change-last (rows_from rows) fresh (λ r. record { group = r.group; low = r.low; up = min r.up up })) in
+      subst (IsSound p (length (rows ++ row ∷ []))) (sym same)
+      (events-sound p (length (rows ++ row ∷ [])) (rows_from rows) (enter (members g) ∷ cap (length (rows_from rows)) up ∷ []) (sized inst) inst.valid.told (sound-more p (length rows) (length (rows ++ row ∷ [])) (rows_from rows) (omega arith) sound)
+      ((real, new, omega arith), ((fresh, get-last (rows_from rows) fresh, omega arith), tt)))
 
 pub Narrows-last : (rows : List Row) (r s : Row) → s.group ≡ r.group → r.low ≤ s.low → s.up ≤ r.up → Narrows (rows ++ r ∷ []) (rows ++ s ∷ [])
 Narrows-last [] r s g l u = (g, l, u, tt)
 Narrows-last (x ∷ rest) r s g l u = (refl, omega arith, omega arith, Narrows-last rest r s g l u)
-
--- in the words of the code, which may cap to less than the rows allow where this is no less than the row's own up
-pub back_up-holds : (inst : Instance) (rows raised new : List Row) (k low up : ℕ) → AreRows (problem_of inst) rows → k < length rows
-    → low ≡ most_low (problem_of inst) (rows_from rows) (members (group_at rows k))
-    → min (row_at rows k).up (least_up (problem_of inst) (rows_from rows) (members (group_at rows k))) ≤ up → up ≤ greedy_cost (problem_of inst) (members (group_at rows k))
-    → raised ≡ raised_at rows k low → new ≡ capped_at raised k up → IsRefreshed (problem_of inst) rows new k low up
-back_up-holds inst rows raised new k low up known lt low_is above below raised_is new_is =
-    let p = problem_of inst in
-    let g = members (group_at rows k) in
-    let least = least_up p (rows_from rows) g in
-    let to = max up least in
-    let small = inst.stands.greedy_fits (group_at rows k) (row-within p rows known k lt) in
-    let first = least_of-first (greedy_cost p g) (filter_map (step_value p (known_up p (rows_from rows)) g) (splitting p g)) in
-    let row : row_at (raised_at rows k low) k ≡ record (row_at rows k) { low = max (row_at rows k).low low } = get_or-set_same rows k _ no_row lt in
-    let both : min (row_at (raised_at rows k low) k).up up ≡ min (row_at (raised_at rows k low) k).up to = (let e = ap (λ (r : Row). r.up) row in omega arith) in
-    let same : capped_at (raised_at rows k low) k up ≡ capped_at (raised_at rows k low) k to = ap (λ n. set (raised_at rows k low) k (record (row_at (raised_at rows k low) k) { up = n })) both in
-    let done : IsRefreshed p rows new k low to = is-refreshed inst rows k low to known lt low_is (omega arith) (omega arith) new (new_is ∙ ap (λ l. capped_at l k up) raised_is ∙ same) in
-    let long : length new ≡ length rows = length-Narrows rows new done.narrows in
-    record {
-      known = done.known;
-      narrows = done.narrows;
-      closes = λ le.
-          let is : row_at new k ≡ record { group = group_at rows k; low = max (row_at rows k).low low; up = min (row_at rows k).up to } =
-          ap (λ l. row_at l k) (new_is ∙ ap (λ l. capped_at l k up) raised_is ∙ same) ∙ get_or-set_same (raised_at rows k low) k _ no_row (let l = length-set rows k (record (row_at rows k) { low = max (row_at rows k).low low }) in omega arith) ∙ ap (λ (r : Row). record r { up = min r.up to }) row in
-          let b = row-bounds p new done.known inst.stands.weighed inst.valid.told k (omega arith) in
-          let b0 = b.0 in
-          let b1 = b.1 in
-          let el : (row_at new k).low ≡ max (row_at rows k).low low = ap (λ (r : Row). r.low) is in
-          let eu : (row_at new k).up ≡ min (row_at rows k).up to = ap (λ (r : Row). r.up) is in
-          let ebu : min (row_at rows k).up up ≡ min (row_at rows k).up to = omega arith in
-          omega arith;
-    }

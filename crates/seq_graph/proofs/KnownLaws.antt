@@ -1,16 +1,16 @@
--- What sound rows say of a part: what it counts for a low is at most its least cost, and what it counts for an up is small.
-use Rattle.std.proofs.Common.{◌≡◌, ℕ, ◌*◌, ◌<◌, ◌≤◌, ◌⊎◌, List, [], ◌∷◌, length, refl, sym, ap, ◌∙◌, arith, inl, inr, subst, Option, Some, None}
-use Rattle.std.specs.Prelude.{Bool, true, false, cond}
+-- What rows with bounds say of a part: what it counts for a low is at most its least cost, and what it counts for an up is small.
+use Rattle.std.proofs.Common.{◌≡◌, ℕ, suc, ◌*◌, ◌<◌, ◌≤◌, ◌⊎◌, List, [], ◌∷◌, length, refl, sym, ap, ◌∙◌, arith, inl, inr, subst, Option, Some, None}
+use Rattle.std.specs.Prelude.{All, Bool, true, false, cond}
 use Rattle.std.proofs.lemmas.Bool.{cases_Bool}
 use Rattle.seq_theory.specs.Problem.{Problem, IsWithin, IsWeighed, IsSized, AreTold, is_end, fails, pass_part, fail_part, weight_of}
 use Rattle.seq_theory.specs.Bound.{bound}
-use Rattle.seq_theory.specs.Graph.{same_group, low, IsReal}
-use Rattle.seq_theory.specs.Rows.{Row as PlainRow, groups_of, IsRow, row_of, known_low}
-use Rattle.seq_theory.proofs.LeastLaws.{least}
+use Rattle.seq_theory.specs.Graph.{same_group, IsReal}
+use Rattle.seq_theory.specs.Tree.{IsLeast}
+use Rattle.seq_theory.specs.Rows.{Row as PlainRow, IsRow, row_for, known_low}
+use Rattle.seq_theory.proofs.LeastLaws.{least, IsLeast-least}
 use Rattle.seq_theory.proofs.GroupLaws.{length-two_filters, weight_of-parts}
-use Rattle.seq_theory.proofs.GreedyLaws.{part-within, greedy-cheap, least-le-greedy, bound-end}
-use Rattle.seq_theory.proofs.LowLaws.{bound-le-low, low-le-least}
-use Rattle.seq_theory.proofs.RowLaws.{same_group-true, wanted-within, sound-bounds}
+use Rattle.seq_theory.proofs.GreedyLaws.{part-within, greedy-cheap, least-le-greedy, bound-le-least, bound-end}
+use Rattle.seq_theory.proofs.RowLaws.{same_group-true, wanted-within}
 use Rattle.seq_huff.specs.Bounds.{greatest_cost}
 use Rattle.seq_theory.proofs.BelowLaws.{product-le}
 use Rattle.seq_inst.specs.declared.group.Group.{Group}
@@ -20,8 +20,7 @@ use Rattle.seq_inst.specs.Members.{has_class, members}
 use Rattle.seq_inst.specs.Instances.{problem_of}
 use Rattle.seq_theory.proofs.BelowLaws.{length-passing}
 use Rattle.seq_core.specs.RowsOf.{row_of as row_from, rows_of as rows_from}
-use Rattle.seq_graph.proofs.RowLaws.{row-among}
-use Rattle.seq_graph.specs.Known.{AreRows, no_row, row_at, group_at}
+use Rattle.seq_graph.specs.Known.{AreRows, IsBounded, no_row, row_at, group_at}
 
 pub sized : (inst : Instance) → IsSized (problem_of inst)
 sized inst = record {
@@ -37,11 +36,11 @@ pub record IsRowOf (rows : List PlainRow) (group : List ℕ) (r : PlainRow) : Ty
   pub among : IsRow r rows
   pub same : group ≡ r.group
 
-pub row_of-found : (rows : List PlainRow) (group : List ℕ) (r : PlainRow) → row_of rows group ≡ Some r → IsRowOf rows group r
+pub row_of-found : (rows : List PlainRow) (group : List ℕ) (r : PlainRow) → row_for rows group ≡ Some r → IsRowOf rows group r
 row_of-found [] group r e = absurd (let h : ⊥ = cc in h)
 row_of-found (s ∷ rest) group r e = go (same_group group s.group) refl e (row_of-found rest group r)
   where
-    go : (b : Bool) → same_group group s.group ≡ b → cond b (Some s) (row_of rest group) ≡ Some r → (row_of rest group ≡ Some r → IsRowOf rest group r) → IsRowOf (s ∷ rest) group r
+    go : (b : Bool) → same_group group s.group ≡ b → cond b (Some s) (row_for rest group) ≡ Some r → (row_for rest group ≡ Some r → IsRowOf rest group r) → IsRowOf (s ∷ rest) group r
     go true y e later = let is : s ≡ r = cc in record { among = inl is; same = same_group-true group s.group y ∙ ap (λ x. x.group) is }
     go false n e later = let f = later e in record { among = inr f.among; same = f.same }
 
@@ -50,17 +49,26 @@ cases_row None = inl refl
 cases_row (Some r) = inr (r, refl)
 
 module _ (p : Problem) (rows : List Row) (known : AreRows p rows) where
+  pub row-bounded : (r : PlainRow) → IsRow r (rows_from rows) → IsBounded p r
+  row-bounded r i = among rows known.each r i
+    where
+      among : (l : List Row) → All (λ (x : Row). IsBounded p (row_from x)) l → (x : PlainRow) → IsRow x (rows_from l) → IsBounded p x
+      among [] all x i = absurd i
+      among (y ∷ rest) all x (inl s) = subst (IsBounded p) s (all 0 no_row (omega arith))
+      among (y ∷ rest) all x (inr i) = among rest (λ k d lt. all (suc k) d (omega arith)) x i
+
   -- ---- lows ----
 
-  pub known_low-le : (group : List ℕ) → known_low p (rows_from rows) group ≤ low p (groups_of (rows_from rows)) group
-  known_low-le group = elim (cases_Bool (is_end p group)) [
+  pub known_low-le : IsWeighed p → AreTold p → (group : List ℕ) → IsWithin p group → known_low p (rows_from rows) group ≤ least p group
+  known_low-le weighed told group within = elim (cases_Bool (is_end p group)) [
     | inl e ↦ rw e (omega arith)
-    | inr e ↦ rw e (elim (cases_row (row_of (rows_from rows) group)) [
-      | inl n ↦ rw n (bound-le-low p (groups_of (rows_from rows)) group)
+    | inr e ↦ rw e (elim (cases_row (row_for (rows_from rows) group)) [
+      | inl n ↦ rw n (bound-le-least p group weighed told within)
       | inr f ↦ rw (f.1)
           (let at = row_of-found (rows_from rows) group f.0 f.1 in
-          let l = subst (λ g. (f.0).low ≤ low p (groups_of (rows_from rows)) g) (sym at.same) (known.sound.lows f.0 at.among) in
-          let b = bound-le-low p (groups_of (rows_from rows)) group in
+          let is = subst (λ g. IsLeast p g (least p group)) at.same (IsLeast-least p group told within) in
+          let l = ((row-bounded f.0 at.among).bounds (least p group) is).0 in
+          let b = bound-le-least p group weighed told within in
           omega arith)
     ])
   ]
@@ -68,7 +76,7 @@ module _ (p : Problem) (rows : List Row) (known : AreRows p rows) where
   pub bound-le-known_low : (group : List ℕ) → bound p group ≤ known_low p (rows_from rows) group
   bound-le-known_low group = elim (cases_Bool (is_end p group)) [
     | inl e ↦ (let b = bound-end p group e in rw e (omega arith))
-    | inr e ↦ rw e (elim (cases_row (row_of (rows_from rows) group)) [
+    | inr e ↦ rw e (elim (cases_row (row_for (rows_from rows) group)) [
       | inl n ↦ rw n (omega arith)
       | inr f ↦ rw (f.1) (omega arith)
     ])
@@ -77,13 +85,13 @@ module _ (p : Problem) (rows : List Row) (known : AreRows p rows) where
   -- ---- the rows by place ----
 
   pub row-real : (place : ℕ) → place < length rows → IsReal p (members (group_at rows place))
-  row-real place lt = known.sound.real (row_from (row_at rows place)) (row-among rows place no_row lt)
+  row-real place lt = (known.each place no_row lt).real
 
   pub row-within : (place : ℕ) → place < length rows → IsWithin p (members (group_at rows place))
   row-within place lt = wanted-within p (members (group_at rows place)) (row-real place lt).wanted
 
   pub row-bounds : IsWeighed p → AreTold p → (place : ℕ) → place < length rows → ((row_at rows place).low ≤ least p (members (group_at rows place))) × (least p (members (group_at rows place)) ≤ (row_at rows place).up)
-  row-bounds w told place lt = sound-bounds p (length rows) (rows_from rows) (row_from (row_at rows place)) w told known.sound (row-among rows place no_row lt)
+  row-bounds w told place lt = (known.each place no_row lt).bounds (least p (members (group_at rows place))) (IsLeast-least p (members (group_at rows place)) told (row-within place lt))
 
 -- ---- least costs are small ----
 
@@ -123,7 +131,6 @@ module _ (inst : Instance) where
 
   pub known_low-small : (rows : List Row) → AreRows (problem_of inst) rows → (xs : List ℕ) → IsLight (problem_of inst) xs → known_low (problem_of inst) (rows_from rows) xs ≤ greatest_cost
   known_low-small rows known xs h =
-      let a = known_low-le (problem_of inst) rows known xs in
-      let b = low-le-least (problem_of inst) (groups_of (rows_from rows)) xs inst.stands.weighed inst.valid.told h.within in
+      let a = known_low-le (problem_of inst) rows known inst.stands.weighed inst.valid.told xs h.within in
       let d = least-small xs h in
       omega arith

@@ -12,6 +12,7 @@ pub mod ChoiceLaws
 pub mod CoverLaws
 pub mod CapLaws
 pub mod WaitingLaws
+pub mod BoundsLaws
 pub mod EventLaws
 pub mod TightenLaws
 pub mod LookLaws

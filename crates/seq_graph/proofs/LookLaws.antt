@@ -5,12 +5,12 @@ use Rattle.std.specs.Prelude.{Bool, false, is_some, ◌&&◌}
 use Rattle.std.proofs.lemmas.Bool.{cases_Bool, true≢false}
 use Rattle.seq_theory.specs.Problem.{Problem, is_end}
 use Rattle.seq_theory.specs.Graph.{is_entered, sum_with}
-use Rattle.seq_theory.specs.Rows.{row_of, up_or, known_up}
+use Rattle.seq_theory.specs.Rows.{row_for, up_or, known_up}
 use Rattle.seq_inst.specs.declared.outcome.Row.{Row}
 use Rattle.seq_inst.specs.Members.{members}
 use Rattle.seq_graph.specs.declared.node.Node.{Node}
 use Rattle.seq_graph.specs.Numbered.{Numbered}
-use Rattle.seq_core.specs.RowsOf.{rows_of as rows_from, place_in}
+use Rattle.seq_core.specs.RowsOf.{rows_of as rows_from, place_of_group}
 use Rattle.seq_graph.specs.declared.graph.Count.{Count}
 use Rattle.seq_graph.specs.Known.{AreKnown, group_at}
 use Rattle.seq_graph.proofs.NumberLaws.{number-entered}
@@ -22,8 +22,8 @@ cases_place None = inl refl
 cases_place (Some k) = inr (k, refl)
 
 module _ (p : Problem) (v : Numbered) (rows : List Row) (kept : List Node) (counts : List Count) (known : AreKnown p v rows kept counts) where
-  no-number : (g : List ℕ) → is_entered v.groups g ≡ false → row_of (rows_from rows) g ≡ None
-  no-number g none = elim (cases_place (place_in (rows_from rows) g)) [
+  no-number : (g : List ℕ) → is_entered v.groups g ≡ false → row_for (rows_from rows) g ≡ None
+  no-number g none = elim (cases_place (place_of_group (rows_from rows) g)) [
     | inl absent ↦ place-none rows g absent
     | inr found ↦
         (let f = place-found rows g found.0 found.1 in

@@ -4,16 +4,16 @@
 -- value, and one that waits has a part without a value.
 use Rattle.std.proofs.Common.{◌≡◌, ℕ, zero, suc, ◌+◌, ◌*◌, ◌<◌, ◌≤◌, min, List, [], ◌∷◌, length, length-set, map, set, slice_get, slice_index, get_or-set_same, get_or-set_other, refl, sym, ap, ◌∙◌, arith, inl, inr, subst, Some, None}
 use Rattle.std.specs.List.{filter_map}
-use Rattle.seq_theory.specs.Problem.{IsIn, IsWithin, pass_part, fail_part, fails, splitting, weight_of}
+use Rattle.seq_theory.specs.Problem.{Problem, least_of, IsIn, IsWithin, pass_part, fail_part, fails, splitting, weight_of}
 use Rattle.seq_theory.specs.Bound.{step_sum}
 use Rattle.seq_theory.specs.Greedy.{greedy_cost}
 use Rattle.seq_theory.specs.Graph.{low, val, step_value}
-use Rattle.seq_theory.specs.Rows.{known_low, known_up, least_up}
+use Rattle.seq_theory.specs.Rows.{known_low, known_up, most_low, least_up}
 use Rattle.seq_theory.proofs.GroupLaws.{pass_part_smaller, fail_part_smaller}
 use Rattle.seq_theory.proofs.GreedyLaws.{part-within}
 use Rattle.seq_theory.proofs.PartsRecursion.{splitting-splits}
 use Rattle.seq_theory.proofs.LowLaws.{low-le-least}
-use Rattle.seq_theory.proofs.ValLaws.{least-le-val, least_of-first, least_of-values-le, IsLeastValue, is_first, is_at, least_value, values-at_least, sum_with-parts}
+use Rattle.seq_theory.proofs.ValLaws.{val-entered, least-le-val, least_of-first, least_of-values-le, IsLeastValue, is_first, is_at, least_value, values-at_least, sum_with-parts}
 use Rattle.seq_theory.proofs.CountedLaws.{counted-length, counted-below}
 use Rattle.seq_inst.specs.declared.group.Group.{Group}
 use Rattle.seq_inst.specs.declared.instance.Instance.{Instance}
@@ -25,40 +25,34 @@ use Rattle.seq_graph.specs.declared.node.Split.{Split}
 use Rattle.seq_graph.specs.declared.node.Waiting.{Waiting}
 use Rattle.seq_graph.specs.KeptOf.{Waits}
 use Rattle.seq_graph.specs.Numbered.{Numbered}
-use Rattle.seq_core.specs.RowsOf.{rows_of as rows_from}
-use Rattle.seq_core.specs.Settled.{groups_in, value_or, size_at, settled_row, settled_rows, AreSettling, IsAmongFirst}
+use Rattle.seq_core.specs.RowsOf.{row_of as row_from, rows_of as rows_from}
+use Rattle.seq_core.specs.Settled.{groups_in, value_or, size_at, settled_row, IsTurnOf}
 use Rattle.seq_graph.proofs.KeptLaws.{all-waits}
-use Rattle.seq_core.proofs.SettleLaws.{known_low-settled, known_up-settled, least_up-settled, raised-settled, capped-settled, sound-settling, same-groups, settled-more, settled-all}
-use Rattle.seq_core.proofs.SettleSteps.{HasOrder, turns-below, turns-next, turns-all}
 use Rattle.seq_graph.specs.declared.graph.Count.{Count}
-use Rattle.seq_graph.specs.Known.{AreRows, AreKnown, no_row, row_at, group_at, splits_in, splits_at, waiting_in, waiting_at}
+use Rattle.seq_graph.specs.Known.{AreRows, AreSound, AreKnown, IsClosedAt, heard, no_row, row_at, group_at, splits_in, splits_at, waiting_in, waiting_at}
 use Rattle.seq_graph.specs.Looks.{NoneIsValued}
-use Rattle.seq_graph.specs.Settling.{evaluated_up, tightened_row, AreSettledBelow}
-use Rattle.seq_graph.proofs.KnownLaws.{row-within}
+use Rattle.seq_graph.specs.Settling.{evaluated_up}
+use Rattle.seq_graph.proofs.KnownLaws.{row-real, row-within}
+use Rattle.seq_graph.proofs.RowLaws.{row-among, row-entered}
 use Rattle.seq_graph.proofs.SplitLaws.{kept-there}
 use Rattle.seq_graph.proofs.CoverLaws.{test-listed}
 
--- where the smaller rows are settled, sound rows are settling, and these are done
-settling : (inst : Instance) (rows : List Row) → AreRows (problem_of inst) rows → (size : ℕ) → AreSettledBelow (problem_of inst) rows size → AreSettling (problem_of inst) rows rows (λ k. size_at rows k < size)
-settling inst rows known size below =
-    let start = sound-settling inst (length rows) rows known.sound in
-    record { groups = start.groups; many = start.many; each = start.each; done = below }
+-- the row of the place, raised to what all tests give, and capped by those that are evaluated
+abbrev tightened_row : Problem → List Row → List Node → ℕ → Row
+tightened_row p rows kept place = heard (most_low p (rows_from rows) (members (group_at rows place))) (evaluated_up p rows kept place) (row_at rows place)
 
 none-some : (n : ℕ) → None ≡ Some n → ⊥
 none-some n e = let bad : ⊥ = cc in bad
 
 module _ (inst : Instance) (v : Numbered) (rows : List Row) (kept : List Node) (counts : List Count) (known : AreKnown (problem_of inst) v rows kept counts) (place : ℕ) (lt : place < length rows)
-    (below : AreSettledBelow (problem_of inst) rows (size_at rows place)) where
-  as-settling : AreSettling (problem_of inst) rows rows (λ k. size_at rows k < size_at rows place)
-  as-settling = settling inst rows known.rows_are (size_at rows place) below
-
+    (turn : IsTurnOf (problem_of inst) rows place) where
   -- what a part counts for a low is no more than what it counts for an up
   low-le-up : (part : List ℕ) (u : ℕ) → length part < size_at rows place → IsWithin (problem_of inst) part → known_up (problem_of inst) (rows_from rows) part ≡ Some u → known_low (problem_of inst) (rows_from rows) part ≤ u
   low-le-up part u small within is =
       let p = problem_of inst in
-      let e = known_low-settled inst rows rows (λ k. size_at rows k < size_at rows place) as-settling (size_at rows place) (λ j there less. less) part small in
+      let e = turn.lows part small in
       let a = low-le-least p (groups_in rows) part inst.stands.weighed inst.valid.told within in
-      let b = least-le-val p (groups_in rows) part u inst.valid.told within (sym (known_up-settled inst rows rows (λ k. size_at rows k < size_at rows place) as-settling (size_at rows place) (λ j there less. less) part small) ∙ is) in
+      let b = least-le-val p (groups_in rows) part u inst.valid.told within (sym (turn.ups part small) ∙ is) in
       omega arith
 
   -- and so with a test that gives both
@@ -119,65 +113,43 @@ module _ (inst : Instance) (v : Numbered) (rows : List Row) (kept : List Node) (
       let p = problem_of inst in
       let g = members (group_at rows place) in
       let least = least_up p (rows_from rows) g in
-      let low_is = raised-settled inst rows rows (λ k. size_at rows k < size_at rows place) as-settling place lt (λ j there less. less) in
-      let up = capped-settled inst rows rows (λ k. size_at rows k < size_at rows place) as-settling place lt (λ j there less. less) in
-      let value = ap value_or (least_up-settled inst rows rows (λ k. size_at rows k < size_at rows place) as-settling place lt (λ j there less. less)) in
+      let low_is = turn.raised in
+      let up = turn.capped in
+      let value = ap value_or turn.value in
       let no_less = evaluated-least in
       let no_more = capped-most none least (least_value (greedy_cost p g) (step_value p (known_up p (rows_from rows)) g) (splitting p g)) in
       let up_is : min (row_at rows place).up (evaluated_up p rows kept place) ≡ value_or (val p (groups_in rows) g) = omega arith in
       ap (λ n. record { group = group_at rows place; low = n; up = min (row_at rows place).up (evaluated_up p rows kept place) }) low_is
       ∙ ap (λ n. record { group = group_at rows place; low = low p (groups_in rows) g; up = n }) up_is
 
--- ---- one row after another ----
+-- ---- a row whose low and up are equal ----
 
-group-set : (rows : List Row) (k j : ℕ) (x : Row) → x.group ≡ group_at rows k → group_at (set rows k x) j ≡ group_at rows j
-group-set [] k j x e = refl
-group-set (r ∷ rest) zero zero x e = e
-group-set (r ∷ rest) zero (suc j) x e = refl
-group-set (r ∷ rest) (suc k) zero x e = refl
-group-set (r ∷ rest) (suc k) (suc j) x e = group-set rest k j x e
+-- what the rows' groups give lies between them
+pub closed-settled : (inst : Instance) (rows : List Row) → AreRows (problem_of inst) rows → AreSound (problem_of inst) rows → (k : ℕ) → k < length rows → IsClosedAt rows k → settled_row (problem_of inst) (groups_in rows) (row_at rows k) ≡ row_at rows k
+closed-settled inst rows known sound k lt closed =
+    go (least_of (greedy_cost (problem_of inst) (members (group_at rows k)) ∷ filter_map (step_value (problem_of inst) (val (problem_of inst) (groups_in rows)) (members (group_at rows k))) (splitting (problem_of inst) (members (group_at rows k)))))
+    (val-entered (problem_of inst) (groups_in rows) (members (group_at rows k)) (row-real (problem_of inst) rows known k lt).goals (row-entered rows k no_row lt))
+  where
+    go : (v : ℕ) → val (problem_of inst) (groups_in rows) (members (group_at rows k)) ≡ Some v → settled_row (problem_of inst) (groups_in rows) (row_at rows k) ≡ row_at rows k
+    go v value =
+        let p = problem_of inst in
+        let r = row_at rows k in
+        let g = members r.group in
+        let within = row-within p rows known k lt in
+        let below = sound.lows (row_from r) (row-among rows k no_row lt) in
+        let above = sound.ups (row_from r) (row-among rows k no_row lt) v value in
+        let left = low-le-least p (groups_in rows) g inst.stands.weighed inst.valid.told within in
+        let right = least-le-val p (groups_in rows) g v inst.valid.told within value in
+        let low_is : low p (groups_in rows) g ≡ r.low = omega arith in
+        let up_is : v ≡ r.up = omega arith in
+        ap (λ n. record { group = r.group; low = n; up = value_or (val p (groups_in rows) g) }) low_is
+        ∙ ap (λ o. record { group = r.group; low = r.low; up = value_or o }) value
+        ∙ ap (λ n. record { group = r.group; low = r.low; up = n }) up_is
 
-module _ (inst : Instance) (rows now : List Row) (order : List ℕ) (n : ℕ) (s : AreSettling (problem_of inst) rows now (IsAmongFirst order n)) where
-  -- the rows as they are now have the groups that they had
-  same-entered : groups_in now ≡ groups_in rows
-  same-entered = same-groups now rows s.many (λ k lt. (s.each k lt).group)
+set-itself : (rows : List Row) (k : ℕ) → set rows k (row_at rows k) ≡ rows
+set-itself [] k = refl
+set-itself (r ∷ rest) zero = refl
+set-itself (r ∷ rest) (suc k) = ap (λ l. r ∷ l) (set-itself rest k)
 
-  settled-group : (k : ℕ) → k < length rows → settled_row (problem_of inst) (groups_in now) (row_at now k) ≡ settled_row (problem_of inst) (groups_in rows) (row_at rows k)
-  settled-group k lt =
-      ap (λ e. settled_row (problem_of inst) e (row_at now k)) same-entered
-      ∙ ap (λ (g : Group). record { group = g; low = low (problem_of inst) (groups_in rows) (members g); up = value_or (val (problem_of inst) (groups_in rows) (members g)) }) (s.each k lt).group
-
-  pub below-settled : HasOrder rows order → n < length order → AreSettledBelow (problem_of inst) now (size_at now (slice_index order n))
-  below-settled by lt j there less =
-      let many = s.many in
-      let long = counted-length (length rows) order by.each_once in
-      let k = slice_index order n in
-      let k_there = counted-below (length rows) order by.each_once n (omega arith) in
-      let a = ap (λ (g : Group). length (members g)) (s.each k k_there).group in
-      let b = ap (λ (g : Group). length (members g)) (s.each j (omega arith)).group in
-      let done = turns-below rows order n by lt j (omega arith) (omega arith) in
-      s.done j (omega arith) done ∙ sym (settled-group j (omega arith))
-
-  pub settled-turn : (new : List Row) → HasOrder rows order → n < length order → new ≡ set now (slice_index order n) (settled_row (problem_of inst) (groups_in now) (row_at now (slice_index order n)))
-      → AreSettling (problem_of inst) rows new (IsAmongFirst order (n + 1))
-  settled-turn new by lt is =
-      let p = problem_of inst in
-      let k = slice_index order n in
-      let many = s.many in
-      let long = counted-length (length rows) order by.each_once in
-      let there = counted-below (length rows) order by.each_once n (omega arith) in
-      let x = settled_row p (groups_in now) (row_at now k) in
-      subst (λ l. AreSettling p rows l (IsAmongFirst order (n + 1))) (sym is)
-      (settled-more p rows now (set now k x) (IsAmongFirst order n) (IsAmongFirst order (n + 1)) k s (length-set now k x)
-      (get_or-set_same now k x no_row (omega arith) ∙ settled-group k there)
-      (λ j ne. get_or-set_other now k j x no_row ne)
-      (turns-next order n))
-
-  pub settled-end : HasOrder rows order → n ≡ length order → now ≡ settled_rows (problem_of inst) rows
-  settled-end by e = settled-all (problem_of inst) rows now (IsAmongFirst order n) s (turns-all rows order n by e)
-
--- before the first turn
-pub settling-none : (inst : Instance) (rows : List Row) (order : List ℕ) → AreRows (problem_of inst) rows → AreSettling (problem_of inst) rows rows (IsAmongFirst order 0)
-settling-none inst rows order known =
-    let start = sound-settling inst (length rows) rows known.sound in
-    record { groups = start.groups; many = start.many; each = start.each; done = λ k lt d. absurd (let l = d.1 in let bad : ⊥ = omega arith in bad) }
+pub closed-set : (inst : Instance) (rows : List Row) → AreRows (problem_of inst) rows → AreSound (problem_of inst) rows → (k : ℕ) → k < length rows → IsClosedAt rows k → rows ≡ set rows k (settled_row (problem_of inst) (groups_in rows) (row_at rows k))
+closed-set inst rows known sound k lt closed = sym (ap (set rows k) (closed-settled inst rows known sound k lt closed) ∙ set-itself rows k)

@@ -13,14 +13,12 @@ use Rattle.seq_inst.specs.Members.{members}
 use Rattle.seq_graph.specs.Known.{IsKeptBy, AreKept, AreRows, no_row, row_at, group_at, splits_in, splits_at, waiting_in, waiting_at}
 use Rattle.seq_theory.specs.Bound.{step_sum}
 use Rattle.seq_theory.specs.Greedy.{first_least}
-use Rattle.seq_theory.specs.Rows.{groups_of, known_low}
-use Rattle.seq_theory.proofs.RowLaws.{most_low-le}
-use Rattle.seq_theory.proofs.LowLaws.{low-le-least}
+use Rattle.seq_theory.specs.Rows.{known_low}
+use Rattle.seq_theory.proofs.GreedyLaws.{least_of-steps-le}
 use Rattle.seq_inst.specs.declared.instance.Instance.{Instance}
 use Rattle.seq_inst.specs.Instances.{problem_of}
 use Rattle.seq_core.specs.RowsOf.{rows_of as rows_from}
-use Rattle.seq_graph.proofs.RowLaws.{row-entered}
-use Rattle.seq_graph.proofs.KnownLaws.{row-real, row-within, row-bounds}
+use Rattle.seq_graph.proofs.KnownLaws.{known_low-le, row-real, row-within, row-bounds}
 use Rattle.seq_graph.proofs.ChoiceLaws.{IsFirst, least_test-first}
 
 pub record IsSplitOf (p : Problem) (v : Numbered) (group : List ℕ) (s : Split) : Type 0 where
@@ -85,10 +83,8 @@ module _ (inst : Instance) (rows : List Row) (known : AreRows (problem_of inst) 
   first-low =
       let p = problem_of inst in
       let g = members (group_at rows place) in
-      let entered = groups_of (rows_from rows) in
       let within = row-within p rows known place lt in
-      let a = most_low-le p entered (rows_from rows) known.sound.lows g (row-real p rows known place lt).goals (row-entered rows place no_row lt) in
-      let b = low-le-least p entered g inst.stands.weighed inst.valid.told within in
+      let a = least_of-steps-le p (known_low p (rows_from rows)) g inst.valid.told within (row-real p rows known place lt).goals (λ part less w. known_low-le p rows known inst.stands.weighed inst.valid.told part w) in
       let c = (row-bounds p rows known inst.stands.weighed inst.valid.told place lt).1 in
       let e = first-test.least in
       omega arith

@@ -1,17 +1,17 @@
 -- What a walk does at a group is allowed: a part that it enters is real, by the law of walks; a part in which it goes on is
 -- smaller; and where both parts are closed, what they count may be both raised to and capped to.
-use Rattle.std.proofs.Common.{◌≡◌, ◌≢◌, ℕ, zero, suc, ◌<◌, ◌≤◌, max, List, [], ◌∷◌, ◌++◌, length, get_or, refl, sym, ap, ◌∙◌, arith, inl, inr, subst, Option, Some, None, length-append}
+use Rattle.std.proofs.Common.{◌≡◌, ◌≢◌, ℕ, zero, suc, ◌<◌, ◌≤◌, max, List, [], ◌∷◌, ◌++◌, length, get_or, refl, sym, ap, ◌∙◌, arith, inl, inr, subst, Some, None, length-append}
 use Rattle.std.specs.Prelude.{Bool, true, false, cond}
 use Rattle.std.proofs.lemmas.Bool.{cases_Bool}
 use Rattle.seq_theory.specs.Problem.{Problem, IsWithin, is_end, splitting, pass_part, fail_part}
+use Rattle.seq_theory.specs.Laws.{WalksHold}
 use Rattle.seq_theory.specs.Bound.{bound, step_sum}
 use Rattle.seq_theory.specs.Graph.{part, IsWanted}
-use Rattle.seq_theory.specs.Rows.{no_value, groups_of, row_of, known_low, known_up}
+use Rattle.seq_theory.specs.Rows.{Row as PlainRow, no_value, row_for, up_or, known_low, known_up}
 use Rattle.seq_theory.proofs.GreedyLaws.{bound-le-least}
 use Rattle.seq_theory.proofs.GroupLaws.{pass_part_smaller, fail_part_smaller}
 use Rattle.seq_theory.proofs.PartsRecursion.{splitting-splits, splitting-there}
-use Rattle.seq_theory.proofs.LowLaws.{low-le-least}
-use Rattle.seq_theory.proofs.WantedLaws.{walk-wanted}
+use Rattle.seq_theory.proofs.LeastLaws.{least, IsLeast-least, IsLeast-one}
 use Rattle.seq_inst.specs.declared.group.Group.{Group}
 use Rattle.seq_inst.specs.declared.instance.Instance.{Instance}
 use Rattle.seq_inst.specs.declared.outcome.Row.{Row}
@@ -19,6 +19,7 @@ use Rattle.seq_inst.specs.Members.{members}
 use Rattle.seq_inst.specs.Instances.{problem_of}
 use Rattle.seq_core.specs.RowsOf.{row_of as row_from, rows_of as rows_from}
 use Rattle.seq_graph.proofs.RowLaws.{row-none}
+use Rattle.seq_graph.specs.declared.steps.Step.{Step}
 use Rattle.seq_graph.specs.declared.steps.Knowledge.{Knowledge}
 use Rattle.seq_graph.specs.declared.steps.Knowledge.TheVariants.{Unknown, Open, Closed}
 use Rattle.seq_graph.specs.declared.node.Node.{Node}
@@ -27,10 +28,10 @@ use Rattle.seq_core.specs.Settled.{value_or}
 use Rattle.seq_graph.specs.declared.graph.Count.{Count}
 use Rattle.seq_graph.specs.Known.{AreRows, AreKnown, count_of, row_at, group_at, Narrows, IsClosedAt}
 use Rattle.seq_graph.specs.Parts.{IsUnknown, IsOpenAt, IsKnowledge}
-use Rattle.seq_graph.specs.Steps.{IsNew, IsOpenBelow, IsStep, ClosesBelow, least_test, step_by}
-use Rattle.seq_graph.specs.Walks.{HasMoved, HasTurned}
+use Rattle.seq_graph.specs.Steps.{IsNew, IsOpenBelow, IsStep, ClosesBelow, Enters, least_test, step_by}
+use Rattle.seq_graph.specs.Walks.{HasMoved}
 use Rattle.seq_graph.proofs.KnownLaws.{IsLight, light-group, known_low-small, known_low-le, bound-le-known_low, row-real, row-within, row-bounds}
-use Rattle.seq_graph.proofs.PlaceLaws.{IsPlaced, place-found, place-none}
+use Rattle.seq_graph.proofs.PlaceLaws.{IsPlaced, place-found, place-none, row-at-place}
 use Rattle.seq_graph.proofs.CountLaws.{count-read, up-given}
 use Rattle.seq_graph.proofs.CountChanges.{count-row}
 use Rattle.seq_graph.proofs.ChoiceLaws.{IsFirst}
@@ -44,10 +45,10 @@ module _ (inst : Instance) (v : Numbered) (rows : List Row) (kept : List Node) (
   counted = count-read (problem_of inst) v rows kept counts known
 
   -- without a row it counts an up only where it has one goal
-  none-up : (g : List ℕ) → row_of (rows_from rows) g ≡ None → known_up (problem_of inst) (rows_from rows) g ≡ cond (is_end (problem_of inst) g) (Some 0) None
+  none-up : (g : List ℕ) → row_for (rows_from rows) g ≡ None → known_up (problem_of inst) (rows_from rows) g ≡ cond (is_end (problem_of inst) g) (Some 0) None
   none-up g none = rw none refl
 
-  none-row : (g : List ℕ) (n : ℕ) (x : Count) → HasNumber v g n → x ≡ get_or counts n x → x.place ≡ None → row_of (rows_from rows) g ≡ None
+  none-row : (g : List ℕ) (n : ℕ) (x : Count) → HasNumber v g n → x ≡ get_or counts n x → x.place ≡ None → row_for (rows_from rows) g ≡ None
   none-row g n x has read none = place-none rows g (sym (ap (λ (c : Count). c.place) (counted g n x has read)) ∙ none)
 
   pub unknown-counted : (g : List ℕ) (n : ℕ) (x : Count) → HasNumber v g n → x ≡ get_or counts n x → x.place ≡ None → x.up ≡ no_value → IsUnknown (problem_of inst) rows g
@@ -114,7 +115,7 @@ module _ (inst : Instance) (v : Numbered) (rows : List Row) (kept : List Node) (
       let small = known_low-small inst rows known.rows_are g light in
       up-given p v rows kept counts known g n x has read (λ none. let bad : ⊥ = omega arith in bad) ∙ ap (λ m. Some m) (sym closed ∙ low)
 
-module _ (inst : Instance) (rows : List Row) (known : AreRows (problem_of inst) rows) where
+module _ (law : WalksHold) (inst : Instance) (rows : List Row) (known : AreRows (problem_of inst) rows) where
   -- ---- what the walk does ----
 
   new-part : (place t : ℕ) (passed : Bool) (g : Group) → place < length rows
@@ -123,10 +124,13 @@ module _ (inst : Instance) (rows : List Row) (known : AreRows (problem_of inst) 
   new-part place t passed g lt first is unknown =
       let p = problem_of inst in
       let real = row-real p rows known place lt in
-      let wanted = walk-wanted p (known_low p (rows_from rows)) (members (group_at rows place)) t passed inst.valid.told real.wanted real.goals
+      let wanted = law p (known_low p (rows_from rows)) (members (group_at rows place)) t passed inst.valid.told real
       (splitting-there p (members (group_at rows place)) t first.among) (splitting-splits p (members (group_at rows place)) t first.among)
       (bound-le-known_low p rows known)
-      (λ x within. let a = known_low-le p rows known x in let b = low-le-least p (groups_of (rows_from rows)) x inst.stands.weighed inst.valid.told within in omega arith) first.least in
+      (λ x n within least_is.
+      let a = known_low-le p rows known inst.stands.weighed inst.valid.told x within in
+      let one = IsLeast-one p x (least p x) n (IsLeast-least p x inst.valid.told within) least_is in
+      omega arith) first.least in
       record {
         real = record { wanted = subst (IsWanted p) (sym is) wanted; goals = unknown.goals };
         absent = row-none (rows_from rows) (members g) unknown.absent;
@@ -181,6 +185,41 @@ module _ (inst : Instance) (rows : List Row) (known : AreRows (problem_of inst) 
   step-holds place t pass Closed fail Unknown lt is first ep ef hp hf = new-fail place t fail lt first ef hf
   step-holds place t pass Closed fail (Open r) lt is first ep ef hp hf = below-fail _ place t r fail first ef hf
   step-holds place t pass Closed fail Closed lt is first ep ef hp hf = closes place t pass fail is ep ef hp hf
+
+  -- and with the failing part first
+  pub fail-step-holds : (place t : ℕ) (pass : Group) (kp : Knowledge) (fail : Group) (kf : Knowledge) → place < length rows → t ≡ least_test (problem_of inst) rows (members (group_at rows place))
+      → IsFirst (step_sum (problem_of inst) (known_low (problem_of inst) (rows_from rows)) (members (group_at rows place))) (splitting (problem_of inst) (members (group_at rows place))) t
+      → members pass ≡ pass_part (problem_of inst) t (members (group_at rows place)) → members fail ≡ fail_part (problem_of inst) t (members (group_at rows place))
+      → IsKnowledge (problem_of inst) rows (members pass) kp → IsKnowledge (problem_of inst) rows (members fail) kf
+      → IsStep (problem_of inst) rows (members (group_at rows place)) (step_by fail kf pass kp)
+  fail-step-holds place t pass kp fail Unknown lt is first ep ef hp hf = new-fail place t fail lt first ef hf
+  fail-step-holds place t pass Unknown fail (Open q) lt is first ep ef hp hf = new-pass place t pass lt first ep hp
+  fail-step-holds place t pass (Open r) fail (Open q) lt is first ep ef hp hf = below-fail _ place t q fail first ef hf
+  fail-step-holds place t pass Closed fail (Open q) lt is first ep ef hp hf = below-fail _ place t q fail first ef hf
+  fail-step-holds place t pass Unknown fail Closed lt is first ep ef hp hf = new-pass place t pass lt first ep hp
+  fail-step-holds place t pass (Open r) fail Closed lt is first ep ef hp hf = below-pass _ place t r pass first ep hp
+  fail-step-holds place t pass Closed fail Closed lt is first ep ef hp hf = closes place t pass fail is ep ef hp hf
+
+-- ---- the part that comes first ----
+
+module _ (p : Problem) (rows : List Row) (known : AreRows p rows) where
+  none-some : (r : PlainRow) → None ≡ Some r → ⊥
+  none-some r e = let bad : ⊥ = cc in bad
+
+  unknown-alone : (part : List ℕ) (k : Knowledge) → IsUnknown p rows part → IsKnowledge p rows part k → k ≡ Unknown
+  unknown-alone part Unknown u h = refl
+  unknown-alone part (Open place) u h = absurd (
+      let found = subst (λ g. row_for (rows_from rows) g ≡ Some (row_from (row_at rows place))) h.same (row-at-place rows place known.distinct h.there) in
+      let bad : ⊥ = none-some (row_from (row_at rows place)) (sym u.absent ∙ found) in
+      bad
+      )
+  unknown-alone part Closed u h = absurd (no-up (known_low p (rows_from rows) part) (sym (ap (λ b. cond b (Some 0) (up_or (row_for (rows_from rows) part))) u.goals ∙ ap up_or u.absent) ∙ h))
+    where
+      no-up : (n : ℕ) → None ≡ Some n → ⊥
+      no-up n e = let bad : ⊥ = cc in bad
+
+  pub enters-one : (one other : Group) (k m : Knowledge) (step : Step) → step ≡ step_by one k other m → IsKnowledge p rows (members one) k → (part : List ℕ) → members one ≡ part → IsUnknown p rows part → Enters part step
+  enters-one one other k m step is h part e u = subst (Enters part) (sym (is ∙ ap (λ x. step_by one x other m) (unknown-alone (members one) k (subst (IsUnknown p rows) (sym e) u) h))) e
 
 -- ---- after a turn ----
 

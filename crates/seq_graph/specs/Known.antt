@@ -1,9 +1,12 @@
--- What a walk knows: sound rows, what is kept of each row's group, and what each group with a number counts.
-use Rattle.std.specs.Prelude.{◌≡◌, ◌⊎◌, ℕ, ◌≤◌, max, min, All, List, [], ◌∷◌, length, map, Option, Some, None, slice_get, slice_set, slice_index_or}
+-- What an engine knows: rows with bounds on the least costs of their groups, what is kept of each row's group, and what each group with
+-- a number counts.
+use Rattle.std.specs.Prelude.{◌≡◌, ℕ, ◌≤◌, max, min, All, List, [], ◌∷◌, length, map, Option, Some, None, slice_get, slice_set, slice_index_or}
 use Rattle.seq_theory.specs.Problem.{Problem, weight_of}
+use Rattle.seq_theory.specs.Tree.{IsLeast}
 use Rattle.seq_theory.specs.Bound.{bound, step_sum}
+use Rattle.seq_theory.specs.Graph.{IsReal}
 use Rattle.seq_theory.specs.Greedy.{greedy_cost}
-use Rattle.seq_theory.specs.Rows.{no_value, known_low, known_up, IsSound}
+use Rattle.seq_theory.specs.Rows.{Row as TheoryRow, known_low, known_up, most_low, least_up, AreDistinct, IsSound}
 use Rattle.seq_huff.specs.Bounds.{greatest_cost}
 use Rattle.seq_inst.specs.declared.group.Group.{Group}
 use Rattle.seq_inst.specs.declared.outcome.Row.{Row}
@@ -14,20 +17,35 @@ use Rattle.seq_graph.specs.declared.node.Split.{Split}
 use Rattle.seq_graph.specs.declared.node.Waiting.{Waiting}
 use Rattle.seq_graph.specs.KeptOf.{AreTestsOf}
 use Rattle.seq_graph.specs.Numbered.{Numbered, HasNumber, AreNumbers}
-use Rattle.seq_core.specs.RowsOf.{rows_of as rows_from, place_in}
-use Rattle.seq_core.specs.Settled.{value_or}
+use Rattle.seq_core.specs.RowsOf.{row_of as row_from, rows_of as rows_from, place_of_group}
+use Rattle.seq_core.specs.Settled.{groups_in, value_or}
 use Rattle.seq_graph.specs.declared.graph.Count.{Count}
 use Rattle.seq_graph.specs.declared.graph.Graph.{Graph}
 use Rattle.seq_graph.specs.Counts.{count_at}
 
--- no upper bound is known, or it is one of a size that sums of three fit a word
-abbrev pub HasSmallUp : Row → Type 0
-HasSmallUp r = (r.up ≡ no_value) ⊎ (r.up ≤ greatest_cost)
+-- the least cost of the group is at least the low and at most the up
+abbrev pub AreBounds : Problem → List ℕ → ℕ → ℕ → Type 0
+AreBounds p group low up = (n : ℕ) → IsLeast p group n → (low ≤ n) × (n ≤ up)
 
--- the rows are sound, and their ups are small
+-- a real group with bounds on its least cost; the up is of a size that sums of three fit a word
+pub record IsBounded (p : Problem) (r : TheoryRow) : Type 0 where
+  pub real : IsReal p r.group
+  pub bounds : AreBounds p r.group r.low r.up
+  pub small : r.up ≤ greatest_cost
+
+-- distinct real groups, each with bounds on its least cost; these may come from elsewhere, as from another worker
 pub record AreRows (p : Problem) (rows : List Row) : Type 0 where
-  pub sound : IsSound p (length rows) (rows_from rows)
-  pub small : All HasSmallUp rows
+  pub distinct : AreDistinct (groups_in rows)
+  pub each : All (λ (r : Row). IsBounded p (row_from r)) rows
+
+-- no row's bounds are better than what the rows' groups give together
+abbrev pub AreSound : Problem → List Row → Type 0
+AreSound p rows = IsSound p (length rows) (rows_from rows)
+
+-- the rows allow that the group is raised to the low, and capped to the up
+pub record Allow (p : Problem) (rows : List Row) (group : List ℕ) (low up : ℕ) : Type 0 where
+  pub low_allowed : low ≤ most_low p (rows_from rows) group
+  pub up_allowed : least_up p (rows_from rows) group ≤ up
 
 abbrev pub no_row : Row
 no_row = record { group = no_class; low = 0; up = 0 }
@@ -71,9 +89,9 @@ pub record AreKept (p : Problem) (v : Numbered) (rows : List Row) (kept : List N
 
 -- what a group counts for a low and for an up, and the place of its row
 abbrev pub count_of : Problem → List Row → List ℕ → Count
-count_of p rows group = record { low = known_low p (rows_from rows) group; up = value_or (known_up p (rows_from rows) group); place = place_in (rows_from rows) group }
+count_of p rows group = record { low = known_low p (rows_from rows) group; up = value_or (known_up p (rows_from rows) group); place = place_of_group (rows_from rows) group }
 
--- the rows are sound, the numbers and what is kept are right, and beside each number stands what its group counts
+-- the rows have bounds, the numbers and what is kept are right, and beside each number stands what its group counts
 pub record AreKnown (p : Problem) (v : Numbered) (rows : List Row) (kept : List Node) (counts : List Count) : Type 0 where
   pub rows_are : AreRows p rows
   pub numbers_are : AreNumbers p v
@@ -82,6 +100,10 @@ pub record AreKnown (p : Problem) (v : Numbered) (rows : List Row) (kept : List 
 
 abbrev pub IsKnown : Problem → Graph → Type 0
 IsKnown p s = AreKnown p s.numbers s.rows.items s.nodes.items s.counts.items
+
+-- the row raised to a low and capped to an up
+abbrev pub heard : ℕ → ℕ → Row → Row
+heard low up r = record { group = r.group; low = max r.low low; up = min r.up up }
 
 -- the rows with one row's low raised, or its up lowered
 abbrev pub raised_at : List Row → ℕ → ℕ → List Row

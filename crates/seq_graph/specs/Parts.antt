@@ -1,7 +1,7 @@
 -- What is known of a part of a group.
 use Rattle.std.specs.Prelude.{◌≡◌, ◌≢◌, ℕ, ◌<◌, false, List, length, Some, None}
 use Rattle.seq_theory.specs.Problem.{Problem, is_end}
-use Rattle.seq_theory.specs.Rows.{row_of, known_low, known_up}
+use Rattle.seq_theory.specs.Rows.{row_for, known_low, known_up}
 use Rattle.seq_inst.specs.declared.outcome.Row.{Row}
 use Rattle.seq_inst.specs.Members.{members}
 use Rattle.seq_core.specs.RowsOf.{rows_of as rows_from}
@@ -12,7 +12,7 @@ use Rattle.seq_graph.specs.Known.{row_at, group_at}
 -- the part has two goals or more, and no row
 pub record IsUnknown (p : Problem) (rows : List Row) (part : List ℕ) : Type 0 where
   pub goals : is_end p part ≡ false
-  pub absent : row_of (rows_from rows) part ≡ None
+  pub absent : row_for (rows_from rows) part ≡ None
 
 -- its row has this place, and its low and up differ
 pub record IsOpenAt (rows : List Row) (part : List ℕ) (place : ℕ) : Type 0 where

@@ -1,34 +1,16 @@
--- A row as the tests of its group tighten it, and rows that are settled: each has the low and the value that the rows' groups
--- give it together.
-use Rattle.std.specs.Prelude.{◌≡◌, ℕ, ◌<◌, max, min, List, ◌∷◌, length, map}
+-- What the evaluated tests of a group give for an up.
+use Rattle.std.specs.Prelude.{ℕ, List, ◌∷◌, map}
 use Rattle.std.specs.List.{filter_map}
 use Rattle.seq_theory.specs.Problem.{Problem, least_of}
 use Rattle.seq_theory.specs.Graph.{step_value}
 use Rattle.seq_theory.specs.Greedy.{greedy_cost}
-use Rattle.seq_theory.specs.Rows.{known_up, most_low}
+use Rattle.seq_theory.specs.Rows.{known_up}
 use Rattle.seq_inst.specs.declared.outcome.Row.{Row}
 use Rattle.seq_inst.specs.Members.{members}
 use Rattle.seq_graph.specs.declared.node.Node.{Node}
 use Rattle.seq_core.specs.RowsOf.{rows_of as rows_from}
-use Rattle.seq_core.specs.Settled.{groups_in, size_at, settled_row}
-use Rattle.seq_graph.specs.Known.{row_at, group_at, splits_at}
+use Rattle.seq_graph.specs.Known.{group_at, splits_at}
 
 -- the least of greedy's cost and of what the evaluated tests of the place give over ups
 abbrev pub evaluated_up : Problem → List Row → List Node → ℕ → ℕ
 evaluated_up p rows kept place = least_of (greedy_cost p (members (group_at rows place)) ∷ filter_map (step_value p (known_up p (rows_from rows)) (members (group_at rows place))) (map (λ s. s.test) (splits_at kept place)))
-
--- the row of the place, raised to what all tests give, and capped by those that are evaluated
-abbrev pub tightened_row : Problem → List Row → List Node → ℕ → Row
-tightened_row p rows kept place = record {
-  group = group_at rows place;
-  low = max (row_at rows place).low (most_low p (rows_from rows) (members (group_at rows place)));
-  up = min (row_at rows place).up (evaluated_up p rows kept place);
-}
-
--- the row of the place has the low and the value that the rows' groups give it
-abbrev pub IsSettledAt : Problem → List Row → ℕ → Type 0
-IsSettledAt p rows place = row_at rows place ≡ settled_row p (groups_in rows) (row_at rows place)
-
--- the rows of all groups of fewer classes have theirs
-abbrev pub AreSettledBelow : Problem → List Row → ℕ → Type 0
-AreSettledBelow p rows size = (k : ℕ) → k < length rows → size_at rows k < size → IsSettledAt p rows k

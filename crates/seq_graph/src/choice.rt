@@ -1,18 +1,16 @@
 //! The test of least sum. Not all tests are evaluated: one waits with a number that is at most its sum,
 //! and is evaluated where this number is no more than the least sum so far. Where all that wait are
 //! above it, the least sum is certain, and is what evaluating all tests would give.
-ghost use Rattle.std.specs.Prelude.{◌≡◌, ◌<◌, ◌∷◌, min, map, Contains, length, IfOk};
-ghost use Rattle.std.specs.List.{filter_map};
-ghost use Rattle.seq_theory.specs.Problem.{least_of};
+ghost use Rattle.std.specs.Prelude.{◌≡◌, ◌<◌, Contains, length, IfOk};
 ghost use Rattle.seq_theory.specs.Bound.{step_sum};
 ghost use Rattle.seq_theory.specs.Graph.{step_value};
-ghost use Rattle.seq_theory.specs.Greedy.{greedy_cost};
 ghost use Rattle.seq_theory.specs.Rows.{known_low, known_up};
 ghost use Rattle.seq_inst.specs.Members.{members};
 ghost use Rattle.seq_inst.specs.Instances.{problem_of};
 ghost use Rattle.seq_core.specs.RowsOf.{rows_of as rows_from};
 ghost use Rattle.seq_graph.specs.KeptOf.{HasParts};
-ghost use Rattle.seq_graph.specs.Known.{IsKnown, row_at, group_at, splits_at};
+ghost use Rattle.seq_graph.specs.Known.{IsKnown, group_at, splits_at};
+ghost use Rattle.seq_graph.specs.Settling.{evaluated_up};
 ghost use Rattle.seq_graph.specs.Choice.{lesser_choice, lesser_value, IsChoice};
 ghost use Rattle.seq_graph.specs.Steps.{least_test as least_test_of};
 
@@ -20,7 +18,6 @@ use crate::graph::Graph;
 use crate::node::Split;
 use crate::sums::sum_of;
 use crate::waiting::{evaluate, next_waiting};
-use seq_huff::Scratch;
 use seq_inst::Instance;
 use std::alloc::AllocError;
 
@@ -73,7 +70,6 @@ fn least_evaluated(inst: &Instance, graph: &Graph, place: usize) -> Option<Chose
 
 /// The splitting test of least sum, the lowest of these. It is evaluated.
 pub(crate) fn least_test(
-    scratch: &mut Scratch,
     inst: &Instance,
     graph: &mut Graph,
     place: usize,
@@ -89,7 +85,7 @@ pub(crate) fn least_test(
 {
     let mut chosen = least_evaluated(inst, graph, place);
     while let Some(at) = next_waiting(graph.nodes[place].waiting.as_slice(), chosen) {
-        let split = evaluate(scratch, inst, graph, place, at)?;
+        let split = evaluate(inst, graph, place, at)?;
         let sum = low_sum(inst, graph, place, split);
         chosen = Some(choose(chosen, split, sum));
     }
@@ -125,14 +121,14 @@ fn lesser_of(number: u64, value: Option<u64>) -> u64
     }
 }
 
-/// The least of the row's up, greedy's cost, and the sums of the ups of the evaluated tests' parts.
+/// The least of greedy's cost and of the sums of the ups of the evaluated tests' parts.
 pub(crate) fn least_up(inst: &Instance, graph: &Graph, place: usize) -> u64
     requires known { IsKnown (problem_of inst.now) graph.now }
     requires place { place < length graph.now.rows.items }
-    ensures { result ≡ least_of (min (row_at graph.now.rows.items place).up (greedy_cost (problem_of inst.now) (members (group_at graph.now.rows.items place))) ∷ filter_map (step_value (problem_of inst.now) (known_up (problem_of inst.now) (rows_from graph.now.rows.items)) (members (group_at graph.now.rows.items place))) (map (λ s. s.test) (splits_at graph.now.nodes.items place))) }
+    ensures { result ≡ evaluated_up (problem_of inst.now) graph.now.rows.items graph.now.nodes.items place }
 {
     let splits = graph.nodes[place].splits.as_slice();
-    let mut least = graph.rows[place].up.min(graph.nodes[place].greedy);
+    let mut least = graph.nodes[place].greedy;
     for split in splits {
         least = lesser_of(least, up_sum(inst, graph, place, *split));
     }

@@ -1,23 +1,22 @@
-//! The events of a search: a group is entered, raised to what its parts' lows give, and capped by what
-//! their ups give. Each keeps the rows sound, and beside each number what its group counts.
-ghost use Rattle.std.specs.Prelude.{◌≡◌, ◌^◌, ◌<◌, Contains, false, length, slice_set, IfOk, [], ◌∷◌, ◌++◌};
-ghost use Rattle.seq_theory.specs.Bound.{step_sum};
+//! The events of a search: a group is entered, and a group hears bounds on its least cost, by which its row is
+//! raised and capped. On one thread these are what its own tests allow; a worker hears what the shared words
+//! answer in their place. The rows' bounds stay true whatever is heard, and the rows stay sound where nothing
+//! is heard but what they allow.
+ghost use Rattle.std.specs.Prelude.{◌≡◌, ◌^◌, ◌<◌, ◌≤◌, false, length, slice_set, IfOk, [], ◌∷◌, ◌++◌};
 ghost use Rattle.seq_theory.specs.Graph.{is_entered, IsReal};
 ghost use Rattle.seq_theory.specs.Greedy.{greedy_cost};
-ghost use Rattle.seq_theory.specs.Rows.{groups_of, known_low, no_value};
+ghost use Rattle.seq_theory.specs.Rows.{groups_of, no_value};
 ghost use Rattle.seq_inst.specs.Members.{members};
 ghost use Rattle.seq_inst.specs.Instances.{problem_of};
 ghost use Rattle.seq_core.specs.RowsOf.{rows_of as rows_from};
-ghost use Rattle.seq_graph.specs.Known.{IsKnown, Narrows, group_at, splits_at, IsClosedAt, raised_at, capped_at, narrowed_at};
-ghost use Rattle.seq_graph.specs.Settling.{tightened_row};
-ghost use Rattle.seq_graph.specs.Steps.{least_test as least_test_of, ClosesBelow};
+ghost use Rattle.seq_graph.specs.Known.{IsKnown, AreBounds, AreSound, Allow, Narrows, row_at, group_at, IsClosedAt, heard, raised_at, capped_at, narrowed_at};
+ghost use Rattle.seq_graph.specs.Steps.{ClosesBelow};
 
-use crate::choice::{Chosen, least_test, least_up};
+use crate::bounds::{Bounds, backed_up};
 use crate::counts::count_new;
 use crate::graph::{Count, Graph};
 use crate::node::Node;
 use crate::sums::{leave_out, leave_out_waiting};
-use seq_huff::Scratch;
 use seq_inst::{Group, Instance, Row};
 use std::alloc::{AllocError, Global};
 
@@ -52,24 +51,22 @@ fn narrow(counts: &mut Vec<Count>, number: usize, low: u64, up: u64)
     count.up = count.up.min(up);
 }
 
-/// Raises a group to the least sum of its tests, and caps it by those that are evaluated.
-pub(crate) fn revise(inst: &Instance, graph: &mut Graph, place: usize, chosen: Chosen)
+/// Raises and caps the row of a place, and what its group counts.
+pub(crate) fn note(inst: &Instance, graph: &mut Graph, place: usize, bounds: Bounds)
     requires known { IsKnown (problem_of inst.now) graph.old }
     requires place { place < length graph.old.rows.items }
-    requires test { chosen.split.test ≡ least_test_of (problem_of inst.now) graph.old.rows.items (members (group_at graph.old.rows.items place)) }
-    requires sum { chosen.sum ≡ step_sum (problem_of inst.now) (known_low (problem_of inst.now) (rows_from graph.old.rows.items)) (members (group_at graph.old.rows.items place)) chosen.split.test }
-    requires evaluated { Contains (splits_at graph.old.nodes.items place) chosen.split }
+    requires right { AreBounds (problem_of inst.now) (members (group_at graph.old.rows.items place)) bounds.low bounds.up }
     ensures known { IsKnown (problem_of inst.now) graph.new }
-    ensures rows { graph.new.rows.items ≡ slice_set graph.old.rows.items place (tightened_row (problem_of inst.now) graph.old.rows.items graph.old.nodes.items place) }
+    ensures rows { graph.new.rows.items ≡ slice_set graph.old.rows.items place (heard bounds.low bounds.up (row_at graph.old.rows.items place)) }
     ensures narrows { Narrows graph.old.rows.items graph.new.rows.items }
-    ensures closes { ClosesBelow (problem_of inst.now) graph.old.rows.items (members (group_at graph.old.rows.items place)) → IsClosedAt graph.new.rows.items place }
+    ensures closes { bounds.up ≤ bounds.low → IsClosedAt graph.new.rows.items place }
+    ensures sound { Allow (problem_of inst.now) graph.old.rows.items (members (group_at graph.old.rows.items place)) bounds.low bounds.up → AreSound (problem_of inst.now) graph.old.rows.items → AreSound (problem_of inst.now) graph.new.rows.items }
 {
-    let low = graph.nodes[place].bound.max(chosen.sum);
-    let up = least_up(inst, graph, place);
+    let _ = inst;
     let number = graph.nodes[place].number as usize;
-    raise(&mut graph.rows, place, low);
-    cap(&mut graph.rows, place, up);
-    narrow(&mut graph.counts, number, low, up);
+    raise(&mut graph.rows, place, bounds.low);
+    cap(&mut graph.rows, place, bounds.up);
+    narrow(&mut graph.counts, number, bounds.low, bounds.up);
 }
 
 /// Leaves out the tests of a group that can't be of least sum again.
@@ -86,29 +83,41 @@ fn prune(inst: &Instance, graph: &mut Graph, place: usize)
     leave_out_waiting(up, &mut kept.waiting);
 }
 
-/// Raises and caps a group by what is known of its parts, and leaves out tests that are of no more use.
-pub fn back_up(
-    scratch: &mut Scratch,
-    inst: &Instance,
-    graph: &mut Graph,
-    place: usize,
-) -> Result<(), AllocError>
+/// A group hears bounds on its least cost, from its own tests or from elsewhere: its low rises to theirs, its
+/// up falls to theirs, and its tests whose sums are above the up go for good.
+pub fn hear(inst: &Instance, graph: &mut Graph, place: usize, bounds: Bounds)
+    requires known { IsKnown (problem_of inst.now) graph.old }
+    requires place { place < length graph.old.rows.items }
+    requires right { AreBounds (problem_of inst.now) (members (group_at graph.old.rows.items place)) bounds.low bounds.up }
+    ensures known { IsKnown (problem_of inst.now) graph.new }
+    ensures rows { graph.new.rows.items ≡ slice_set graph.old.rows.items place (heard bounds.low bounds.up (row_at graph.old.rows.items place)) }
+    ensures narrows { Narrows graph.old.rows.items graph.new.rows.items }
+    ensures closes { bounds.up ≤ bounds.low → IsClosedAt graph.new.rows.items place }
+
+    // Bounds that the rows allow keep them sound.
+    ensures sound { Allow (problem_of inst.now) graph.old.rows.items (members (group_at graph.old.rows.items place)) bounds.low bounds.up → AreSound (problem_of inst.now) graph.old.rows.items → AreSound (problem_of inst.now) graph.new.rows.items }
+{
+    note(inst, graph, place, bounds);
+    prune(inst, graph, place);
+}
+
+/// A group hears what its own tests allow.
+pub fn back_up(inst: &Instance, graph: &mut Graph, place: usize) -> Result<(), AllocError>
     requires known { IsKnown (problem_of inst.now) graph.old }
     requires place { place < length graph.old.rows.items }
     ensures known { IfOk result (λ _. IsKnown (problem_of inst.now) graph.new) }
     ensures narrows { IfOk result (λ _. Narrows graph.old.rows.items graph.new.rows.items) }
     ensures closes { IfOk result (λ _. ClosesBelow (problem_of inst.now) graph.old.rows.items (members (group_at graph.old.rows.items place)) → IsClosedAt graph.new.rows.items place) }
+    ensures sound { IfOk result (λ _. AreSound (problem_of inst.now) graph.old.rows.items → AreSound (problem_of inst.now) graph.new.rows.items) }
 {
-    let chosen = least_test(scratch, inst, graph, place)?;
-    revise(inst, graph, place, chosen);
-    prune(inst, graph, place);
+    let bounds = backed_up(inst, graph, place)?;
+    hear(inst, graph, place, bounds);
     Ok(())
 }
 
 /// Gives a group a row with what greedy costs for an up, and what is kept of it.
 pub(crate) fn add(
     alloc: Global,
-    scratch: &mut Scratch,
     inst: &Instance,
     graph: &mut Graph,
     group: &Group,
@@ -119,11 +128,11 @@ pub(crate) fn add(
     requires room { length graph.old.rows.items < 2 ^ 32 }
     ensures known { IfOk result (λ _. IsKnown (problem_of inst.now) graph.new) }
     ensures rows { IfOk result (λ _. graph.new.rows.items ≡ graph.old.rows.items ++ record { group = group.now; low = 0; up = greedy_cost (problem_of inst.now) (members group.now) } ∷ []) }
+    ensures sound { IfOk result (λ _. AreSound (problem_of inst.now) graph.old.rows.items → AreSound (problem_of inst.now) graph.new.rows.items) }
 {
     let place = graph.rows.len();
     graph.numbers.reserve(ROOM_FOR_GREEDY)?;
     let kept = Node::of(
-        scratch,
         &mut graph.numbers,
         inst,
         group,
@@ -160,7 +169,6 @@ fn give_back(inst: &Instance, graph: &mut Graph, place: usize)
 /// Enters a group, and raises and caps it.
 pub fn enter(
     alloc: Global,
-    scratch: &mut Scratch,
     inst: &Instance,
     graph: &mut Graph,
     group: &Group,
@@ -171,10 +179,11 @@ pub fn enter(
     requires room { length graph.old.rows.items < 32768 }
     ensures known { IfOk result (λ _. IsKnown (problem_of inst.now) graph.new) }
     ensures narrows { IfOk result (λ _. Narrows (graph.old.rows.items ++ record { group = group.now; low = 0; up = no_value } ∷ []) graph.new.rows.items) }
+    ensures sound { IfOk result (λ _. AreSound (problem_of inst.now) graph.old.rows.items → AreSound (problem_of inst.now) graph.new.rows.items) }
 {
     let place = graph.rows.len();
-    add(alloc, scratch, inst, graph, group)?;
-    back_up(scratch, inst, graph, place)?;
+    add(alloc, inst, graph, group)?;
+    back_up(inst, graph, place)?;
     give_back(inst, graph, place);
     Ok(())
 }

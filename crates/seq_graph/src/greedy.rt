@@ -6,8 +6,8 @@
 //! A test is chosen by its sum over the bounds of its parts. Most tests need no sum: each test that splits
 //! the group has an estimate that is at most its sum, and a test is passed over where its estimate is above
 //! a sum that is known. The test of least estimate is asked first, so that this sum is small from the start.
-//! The bounds that were worked out for a sum are kept, as a search asks for them again; the parts of the
-//! tests that were passed over get no numbers.
+//! The bounds that were worked out for a sum are remembered for a while, as a search soon asks for them again;
+//! of the parts only those by greedy's test get numbers.
 ghost use Rattle.std.specs.Prelude.{◌≡◌, ◌⊎◌, ◌<◌, ◌≤◌, true, false, Some, IfOk, IfSome, vec_len};
 ghost use Rattle.seq_theory.specs.Problem.{IsWithin, is_end, splits as is_split, weight_of as weight_sum};
 ghost use Rattle.seq_theory.specs.Bound.{bound as bound_by, step_sum};
@@ -21,8 +21,8 @@ ghost use Rattle.seq_graph.specs.GreedyChoice.{IsNoLater, IsEvaluated, AreEstima
 ghost use Rattle.seq_graph.specs.Numbered.{capacity, AreNumbers, KeepsNumbers};
 
 use crate::numbers::Numbers;
-use seq_huff::{Estimate, Order, Scratch};
-use seq_inst::{Answer, Group, Instance, Strategy, ask_first, is_leaf, part, splits, weight_of};
+use seq_huff::{Estimate, Order};
+use seq_inst::{Group, Instance, Strategy, ask_first, is_leaf, parts_of, splits, weight_of};
 use std::alloc::{AllocError, Global};
 
 /// Greedy's test of a group, and what greedy costs over the group.
@@ -100,16 +100,9 @@ pub(crate) fn estimates_of(order: &Order, inst: &Instance, group: &Group) -> Est
 }
 
 impl Numbers {
-    /// The sum of a test over the group, of which the weight is known, and the bounds of its parts. Parts
-    /// of two goals or more get numbers where there is room.
-    fn bound_sum(
-        &mut self,
-        scratch: &mut Scratch,
-        inst: &Instance,
-        group: &Group,
-        test: u32,
-        weight: u64,
-    ) -> u64
+    /// The sum of a test over the group, of which the weight is known, and the bounds of its parts.
+    /// No part gets a number by it.
+    fn bound_sum(&mut self, inst: &Instance, group: &Group, test: u32, weight: u64) -> u64
         requires numbers { AreNumbers (problem_of inst.now) self.old }
         requires within { IsWithin (problem_of inst.now) (members group.now) }
         requires there { test < vec_len inst.now.costs }
@@ -119,10 +112,9 @@ impl Numbers {
         ensures capacity { capacity self.new ≡ capacity self.old }
         ensures value { result ≡ step_sum (problem_of inst.now) (bound_by (problem_of inst.now)) (members group.now) test }
     {
-        let pass_part = part(inst, group, test, Answer::Pass);
-        let pass = self.bound_within(scratch, inst, &pass_part);
-        let fail_part = part(inst, group, test, Answer::Fail);
-        let fail = self.bound_within(scratch, inst, &fail_part);
+        let parts = parts_of(inst, group, test);
+        let pass = self.bound_within(inst, &parts.pass);
+        let fail = self.bound_within(inst, &parts.fail);
         u64::from(inst.costs[test as usize]) * weight + (pass + fail)
     }
 
@@ -130,7 +122,6 @@ impl Numbers {
     /// sum where its estimate is above the earlier one's.
     fn better(
         &mut self,
-        scratch: &mut Scratch,
         inst: &Instance,
         group: &Group,
         weight: u64,
@@ -158,21 +149,14 @@ impl Numbers {
             return earlier;
         }
         if splits(inst, group, test) {
-            let sum = self.bound_sum(scratch, inst, group, test, weight);
+            let sum = self.bound_sum(inst, group, test, weight);
             return choose(earlier, Chosen { test, sum });
         }
         earlier
     }
 
     /// The splitting test of least sum over the bounds of its parts, the lowest of these.
-    fn test_by(
-        &mut self,
-        scratch: &mut Scratch,
-        inst: &Instance,
-        group: &Group,
-        weight: u64,
-        estimates: &Estimates,
-    ) -> u32
+    fn test_by(&mut self, inst: &Instance, group: &Group, weight: u64, estimates: &Estimates) -> u32
         requires numbers { AreNumbers (problem_of inst.now) self.old }
         requires within { IsWithin (problem_of inst.now) (members group.now) }
         requires weight { weight ≡ weight_sum (problem_of inst.now) (members group.now) }
@@ -183,7 +167,7 @@ impl Numbers {
         ensures capacity { capacity self.new ≡ capacity self.old }
         ensures test { result ≡ test_of_greedy (problem_of inst.now) (members group.now) }
     {
-        let sum = self.bound_sum(scratch, inst, group, estimates.first, weight);
+        let sum = self.bound_sum(inst, group, estimates.first, weight);
         let mut chosen = Chosen {
             test: estimates.first,
             sum,
@@ -191,7 +175,7 @@ impl Numbers {
         let tests = inst.costs.len() as u32;
         for test in 0..tests {
             let estimate = estimates.of_tests[test as usize];
-            chosen = self.better(scratch, inst, group, weight, chosen, test, estimate);
+            chosen = self.better(inst, group, weight, chosen, test, estimate);
         }
         chosen.test
     }
@@ -199,7 +183,6 @@ impl Numbers {
     /// The same test; the estimates are worked out where they weren't before.
     fn greedy_test(
         &mut self,
-        scratch: &mut Scratch,
         inst: &Instance,
         group: &Group,
         weight: u64,
@@ -216,17 +199,17 @@ impl Numbers {
         ensures test { result ≡ test_of_greedy (problem_of inst.now) (members group.now) }
     {
         match estimates {
-            Some(estimates) => self.test_by(scratch, inst, group, weight, estimates),
+            Some(estimates) => self.test_by(inst, group, weight, estimates),
             None => {
                 let estimates = self.estimates(inst, group);
-                self.test_by(scratch, inst, group, weight, &estimates)
+                self.test_by(inst, group, weight, &estimates)
             }
         }
     }
 
     /// What greedy costs over the group. It is worked out once for each group that greedy's trees meet, as
     /// long as there is room for numbers; it takes no memory.
-    pub fn greedy_of(&mut self, scratch: &mut Scratch, inst: &Instance, group: &Group) -> u64
+    pub fn greedy_of(&mut self, inst: &Instance, group: &Group) -> u64
         requires numbers { AreNumbers (problem_of inst.now) self.old }
         requires within { IsWithin (problem_of inst.now) (members group.now) }
         ensures numbers { AreNumbers (problem_of inst.now) self.new }
@@ -235,13 +218,12 @@ impl Numbers {
         ensures value { result ≡ cost_of_greedy (problem_of inst.now) (members group.now) }
         ensures fits { result ≤ greatest_cost }
     {
-        self.greedy_from(scratch, inst, group, None)
+        self.greedy_from(inst, group, None)
     }
 
     /// The same cost, where the estimates of the group's tests may have been worked out already.
     pub(crate) fn greedy_from(
         &mut self,
-        scratch: &mut Scratch,
         inst: &Instance,
         group: &Group,
         estimates: Option<&Estimates>,
@@ -262,18 +244,17 @@ impl Numbers {
             return known.cost;
         }
         let weight = weight_of(inst, group);
-        let test = self.greedy_test(scratch, inst, group, weight, estimates);
-        let pass_part = part(inst, group, test, Answer::Pass);
-        let pass = self.greedy_from(scratch, inst, &pass_part, None);
-        let fail_part = part(inst, group, test, Answer::Fail);
-        let fail = self.greedy_from(scratch, inst, &fail_part, None);
+        let test = self.greedy_test(inst, group, weight, estimates);
+        let parts = parts_of(inst, group, test);
+        let pass = self.greedy_from(inst, &parts.pass, None);
+        let fail = self.greedy_from(inst, &parts.fail, None);
         let cost = u64::from(inst.costs[test as usize]) * weight + (pass + fail);
-        self.keep_greedy(scratch, inst, group, Greedy { test, cost });
+        self.keep_greedy(inst, group, Greedy { test, cost });
         cost
     }
 
     /// Greedy's test of the group, which has two goals or more: the kept one, or chosen afresh.
-    fn greedy_choice(&mut self, scratch: &mut Scratch, inst: &Instance, group: &Group) -> u32
+    fn greedy_choice(&mut self, inst: &Instance, group: &Group) -> u32
         requires numbers { AreNumbers (problem_of inst.now) self.old }
         requires within { IsWithin (problem_of inst.now) (members group.now) }
         requires more { is_end (problem_of inst.now) (members group.now) ≡ false }
@@ -286,7 +267,7 @@ impl Numbers {
             return known.test;
         }
         let weight = weight_of(inst, group);
-        self.greedy_test(scratch, inst, group, weight, None)
+        self.greedy_test(inst, group, weight, None)
     }
 
     /// The greedy strategy for the group, by the tests that are kept. Where one isn't kept it is chosen
@@ -294,7 +275,6 @@ impl Numbers {
     pub fn greedy_tree(
         &mut self,
         alloc: Global,
-        scratch: &mut Scratch,
         inst: &Instance,
         group: &Group,
     ) -> Result<Strategy, AllocError>
@@ -308,11 +288,10 @@ impl Numbers {
         if is_leaf(inst, group) {
             return Ok(Strategy::Leaf);
         }
-        let test = self.greedy_choice(scratch, inst, group);
-        let pass_part = part(inst, group, test, Answer::Pass);
-        let pass = self.greedy_tree(alloc, scratch, inst, &pass_part)?;
-        let fail_part = part(inst, group, test, Answer::Fail);
-        let fail = self.greedy_tree(alloc, scratch, inst, &fail_part)?;
+        let test = self.greedy_choice(inst, group);
+        let parts = parts_of(inst, group, test);
+        let pass = self.greedy_tree(alloc, inst, &parts.pass)?;
+        let fail = self.greedy_tree(alloc, inst, &parts.fail)?;
         ask_first(alloc, test, pass, fail)
     }
 }

@@ -14,8 +14,7 @@ ghost use Rattle.seq_graph.specs.Looks.{NoneIsValued};
 
 use crate::graph::Graph;
 use crate::waiting::evaluate;
-use seq_huff::Scratch;
-use seq_inst::{Answer, Group, Instance, is_leaf, part};
+use seq_inst::{Group, Instance, is_leaf, parts_of};
 use std::alloc::AllocError;
 
 /// Whether the group has one goal, or a number beside which an up stands.
@@ -35,13 +34,12 @@ fn have_ups(inst: &Instance, graph: &Graph, group: &Group, test: u32) -> bool
     requires there { test < vec_len inst.now.costs }
     ensures { result ≡ is_some (step_value (problem_of inst.now) (known_up (problem_of inst.now) (rows_from graph.now.rows.items)) (members group.now) test) }
 {
-    has_up(inst, graph, &part(inst, group, test, Answer::Pass))
-        && has_up(inst, graph, &part(inst, group, test, Answer::Fail))
+    let parts = parts_of(inst, group, test);
+    has_up(inst, graph, &parts.pass) && has_up(inst, graph, &parts.fail)
 }
 
 /// Evaluates the tests that wait though both of their parts have an up.
 pub(crate) fn look_at_all(
-    scratch: &mut Scratch,
     inst: &Instance,
     graph: &mut Graph,
     place: usize,
@@ -58,7 +56,7 @@ pub(crate) fn look_at_all(
     while at < graph.nodes[place].waiting.len() {
         let test = graph.nodes[place].waiting[at].test;
         if have_ups(inst, graph, &group, test) {
-            evaluate(scratch, inst, graph, place, at)?;
+            evaluate(inst, graph, place, at)?;
         } else {
             at += 1;
         }

@@ -20,8 +20,7 @@ ghost use Rattle.seq_graph.specs.KeptOf.{HasParts, AreTestsOf, IsKeptOf, IsEvalu
 
 use crate::greedy::Estimates;
 use crate::numbers::Numbers;
-use seq_huff::Scratch;
-use seq_inst::{Answer, Group, Instance, is_leaf, part, splits, weight_of};
+use seq_inst::{Group, Instance, is_leaf, parts_of, splits, weight_of};
 use std::alloc::AllocError;
 
 /// A test that splits a group, with the numbers of the part that passes it and the part that fails it.
@@ -53,7 +52,6 @@ pub struct Node {
 
 /// The test with the numbers of the parts that it makes of the group.
 fn split_by(
-    scratch: &mut Scratch,
     numbers: &mut Numbers,
     inst: &Instance,
     group: &Group,
@@ -68,10 +66,9 @@ fn split_by(
     ensures parts { IfOk result (HasParts (problem_of inst.now) numbers.new (members group.now)) }
     ensures succeeds { 2 ≤ numbers.old.room → IsOk result }
 {
-    let pass_part = part(inst, group, test, Answer::Pass);
-    let pass = numbers.number_of(scratch, inst, &pass_part)?;
-    let fail_part = part(inst, group, test, Answer::Fail);
-    let fail = numbers.number_of(scratch, inst, &fail_part)?;
+    let parts = parts_of(inst, group, test);
+    let pass = numbers.number_of(inst, &parts.pass)?;
+    let fail = numbers.number_of(inst, &parts.fail)?;
     Ok(Split { test, pass, fail })
 }
 
@@ -107,7 +104,6 @@ impl Node {
     /// there is room. The two lists are empty; it takes no memory where there is room for the group's number
     /// and the second list has room for all tests.
     pub fn of(
-        scratch: &mut Scratch,
         numbers: &mut Numbers,
         inst: &Instance,
         group: &Group,
@@ -124,7 +120,7 @@ impl Node {
         ensures none { IfOk result (λ k. k.splits.items ≡ []) }
         ensures succeeds { 0 < numbers.old.room → vec_len inst.now.costs ≤ vec_capacity waiting → IsOk result }
     {
-        let number = numbers.number_of(scratch, inst, group)?;
+        let number = numbers.number_of(inst, group)?;
         let bound = numbers.bound_at(number);
         let weight = weight_of(inst, group);
         if is_leaf(inst, group) {
@@ -138,7 +134,7 @@ impl Node {
             });
         }
         let estimates = numbers.estimates(inst, group);
-        let greedy = numbers.greedy_from(scratch, inst, group, Some(&estimates));
+        let greedy = numbers.greedy_from(inst, group, Some(&estimates));
         let waiting = waiting_of(inst, group, &estimates, greedy, waiting)?;
         Ok(Node {
             number,
@@ -156,7 +152,6 @@ impl Node {
     /// one more evaluated test. Where the memory is short nothing but the numbers changes.
     pub fn evaluate(
         &mut self,
-        scratch: &mut Scratch,
         numbers: &mut Numbers,
         inst: &Instance,
         group: &Group,
@@ -183,7 +178,7 @@ impl Node {
         ensures greedy { self.new.greedy ≡ self.old.greedy }
     {
         let test = self.waiting[at].test;
-        let split = split_by(scratch, numbers, inst, group, test)?;
+        let split = split_by(numbers, inst, group, test)?;
         self.splits.push(split)?;
         self.waiting.swap_remove(at);
         Ok(())

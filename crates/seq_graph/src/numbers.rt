@@ -1,6 +1,7 @@
 //! Groups by number, with what was worked out of each: its bound, and greedy's test and cost over it once
 //! these were asked for. A search meets the same groups again and again by other tests, so each of these
-//! is worked out once. Numbers go upwards from 0 in the order in which groups are met, so that whatever
+//! is worked out once. A group of which the bound alone is asked gets no number: the memo has such bounds.
+//! Numbers go upwards from 0 in the order in which groups are met, so that whatever
 //! else an engine knows of groups can stand in lists by number.
 //!
 //! `reserve` takes the memory for so many more groups. `number_within` takes none: it gives numbers while
@@ -17,17 +18,17 @@ ghost use Rattle.seq_graph.specs.GreedyChoice.{AreEstimates};
 ghost use Rattle.seq_graph.specs.Numbered.{capacity, HasNumber, HasGreedy, IsGreedyOf, AreNumbers, KeepsNumbers};
 
 use crate::greedy::{Estimates, Greedy, estimates_of};
+use crate::memo::BoundMemo;
 use indexmap::IndexMap;
-use seq_huff::{Order, Scratch, ordered_bound};
-use seq_inst::{Group, Instance, group_stands, is_leaf};
+use seq_inst::{Group, Instance, group_stands, is_leaf, same_words_hold};
 use std::alloc::{AllocError, Global};
 use std::marker::Model;
 
 /// Groups by number.
 #[derive(Drop)]
 pub struct Numbers {
-    /// The weights and the costs in order, so that no bound sorts them.
-    order: Order,
+    /// By which bounds are worked out, and the latest of them.
+    memo: BoundMemo,
     /// The bound of each group by its words, in the order of numbers.
     bounds: IndexMap<[u64; 8], u64>,
     /// Greedy's test and cost over each group, by number.
@@ -44,7 +45,7 @@ impl Model for Numbers {
 
     ghost Value = { Numbered };
 
-    ghost view = { λ m. record { order = m.order; groups = map classes_of (keys m.bounds); bounds = values m.bounds; greedy = m.greedy.items; room = m.room } };
+    ghost view = { λ m. record { memo = m.memo; groups = map classes_of (keys m.bounds); bounds = values m.bounds; greedy = m.greedy.items; room = m.room } };
 
     ghost invariant = { λ m. record {
       words : AreWords (keys m.bounds);
@@ -61,9 +62,9 @@ impl Numbers {
         ensures numbers { IfOk result (AreNumbers (problem_of inst.now)) }
         ensures none { IfOk result (λ v. v.groups ≡ []) }
     {
-        let order = Order::of(alloc, inst)?;
+        let memo = BoundMemo::new(alloc, inst)?;
         Ok(Numbers {
-            order,
+            memo,
             bounds: IndexMap::new(alloc),
             greedy: Vec::new(alloc),
             room: 0,
@@ -123,13 +124,7 @@ impl Numbers {
     }
 
     /// Keeps greedy's test and cost over the group, where it has a number or there is room for one.
-    pub(crate) fn keep_greedy(
-        &mut self,
-        scratch: &mut Scratch,
-        inst: &Instance,
-        group: &Group,
-        greedy: Greedy,
-    )
+    pub(crate) fn keep_greedy(&mut self, inst: &Instance, group: &Group, greedy: Greedy)
         requires numbers { AreNumbers (problem_of inst.now) self.old }
         requires within { IsWithin (problem_of inst.now) (members group.now) }
         requires greedy { IsGreedyOf (problem_of inst.now) (members group.now) greedy }
@@ -137,7 +132,7 @@ impl Numbers {
         ensures keeps { KeepsNumbers self.old self.new }
         ensures capacity { capacity self.new ≡ capacity self.old }
     {
-        if let Some(number) = self.number_within(scratch, inst, group) {
+        if let Some(number) = self.number_within(inst, group) {
             self.write_greedy(number, greedy);
         }
     }
@@ -148,6 +143,7 @@ impl Numbers {
         ensures none { IfNone result (is_entered self.now.groups (members group.now) ≡ false) }
     {
         group_stands(group);
+        same_words_hold();
         match self.bounds.get_index_of(&group.0) {
             Some(index) => Some(index as u32),
             None => None,
@@ -191,7 +187,7 @@ impl Numbers {
     }
 
     /// Gives the group, which has no number, the next one, with its bound.
-    fn next_number(&mut self, scratch: &mut Scratch, inst: &Instance, group: &Group) -> u32
+    fn next_number(&mut self, inst: &Instance, group: &Group) -> u32
         requires numbers { AreNumbers (problem_of inst.now) self.old }
         requires within { IsWithin (problem_of inst.now) (members group.now) }
         requires absent { is_entered self.old.groups (members group.now) ≡ false }
@@ -202,18 +198,13 @@ impl Numbers {
         ensures capacity { capacity self.new ≡ capacity self.old }
         ensures one { self.old.room ≤ self.new.room + 1 }
     {
-        let bound = self.fresh_bound(scratch, inst, group);
+        let bound = self.memo_bound(inst, group);
         self.add(group, bound)
     }
 
     /// The number of the group. One that has none gets the next one, with its bound. It takes memory only
     /// where the group has no number and no room is left.
-    pub fn number_of(
-        &mut self,
-        scratch: &mut Scratch,
-        inst: &Instance,
-        group: &Group,
-    ) -> Result<u32, AllocError>
+    pub fn number_of(&mut self, inst: &Instance, group: &Group) -> Result<u32, AllocError>
         requires numbers { AreNumbers (problem_of inst.now) self.old }
         requires within { IsWithin (problem_of inst.now) (members group.now) }
         ensures numbers { AreNumbers (problem_of inst.now) self.new }
@@ -231,17 +222,12 @@ impl Numbers {
             return Ok(number);
         }
         self.reserve(1)?;
-        Ok(self.next_number(scratch, inst, group))
+        Ok(self.next_number(inst, group))
     }
 
     /// The number of the group. One that has none gets the next one, with its bound, while there is room.
     /// It takes no memory.
-    pub fn number_within(
-        &mut self,
-        scratch: &mut Scratch,
-        inst: &Instance,
-        group: &Group,
-    ) -> Option<u32>
+    pub fn number_within(&mut self, inst: &Instance, group: &Group) -> Option<u32>
         requires numbers { AreNumbers (problem_of inst.now) self.old }
         requires within { IsWithin (problem_of inst.now) (members group.now) }
         ensures numbers { AreNumbers (problem_of inst.now) self.new }
@@ -262,17 +248,19 @@ impl Numbers {
         if self.room == 0 {
             return None;
         }
-        Some(self.next_number(scratch, inst, group))
+        Some(self.next_number(inst, group))
     }
 
-    /// The bound of the group, worked out afresh.
-    fn fresh_bound(&self, scratch: &mut Scratch, inst: &Instance, group: &Group) -> u64
-        requires numbers { AreNumbers (problem_of inst.now) self.now }
+    /// The bound of the group, by the memo. No number changes.
+    fn memo_bound(&mut self, inst: &Instance, group: &Group) -> u64
+        requires numbers { AreNumbers (problem_of inst.now) self.old }
         requires within { IsWithin (problem_of inst.now) (members group.now) }
+        ensures numbers { AreNumbers (problem_of inst.now) self.new }
+        ensures same { self.new ≡ record self.old { memo = self.new.memo } }
         ensures value { result ≡ bound_by (problem_of inst.now) (members group.now) }
         ensures fits { result ≤ greatest_cost }
     {
-        ordered_bound(scratch, &self.order, inst, group)
+        self.memo.bound_of(inst, group)
     }
 
     /// The estimates of the tests that split the group, which has two goals or more.
@@ -282,17 +270,11 @@ impl Numbers {
         requires more { is_end (problem_of inst.now) (members group.now) ≡ false }
         ensures { AreEstimates (problem_of inst.now) (members group.now) result }
     {
-        estimates_of(&self.order, inst, group)
+        estimates_of(&self.memo.order, inst, group)
     }
 
-    /// The bound of the group. A group of two goals or more gets a number where there is room; one of
-    /// one goal needs none, as its bound is 0.
-    pub(crate) fn bound_within(
-        &mut self,
-        scratch: &mut Scratch,
-        inst: &Instance,
-        group: &Group,
-    ) -> u64
+    /// The bound of the group: what is kept where it has a number, else by the memo. It gets no number.
+    pub(crate) fn bound_within(&mut self, inst: &Instance, group: &Group) -> u64
         requires numbers { AreNumbers (problem_of inst.now) self.old }
         requires within { IsWithin (problem_of inst.now) (members group.now) }
         ensures numbers { AreNumbers (problem_of inst.now) self.new }
@@ -304,9 +286,9 @@ impl Numbers {
         if is_leaf(inst, group) {
             return 0;
         }
-        match self.number_within(scratch, inst, group) {
+        match self.find(group) {
             Some(number) => self.bound_at(number),
-            None => self.fresh_bound(scratch, inst, group),
+            None => self.memo_bound(inst, group),
         }
     }
 }

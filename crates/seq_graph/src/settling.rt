@@ -3,55 +3,55 @@
 //! turn, from the smallest groups on: a group's parts have fewer classes than it has, so when its turn
 //! comes theirs are final. A test that the walk left out gives no less than the row's up, and one that
 //! waits counts for the up only where both of its parts have one; so these are evaluated, and no others.
-//! All sums are looked up by number, which costs less than half of settling the same rows afresh.
+//! All sums are looked up by number, which costs less than half of settling the same rows afresh. A row whose
+//! low and up are equal is settled as it is: what the rows' groups give lies between the two.
 ghost use Rattle.std.specs.Prelude.{◌≡◌, ◌<◌, length, slice_set, IfOk};
 ghost use Rattle.seq_inst.specs.Instances.{problem_of};
-ghost use Rattle.seq_core.specs.Settled.{groups_in, size_at, settled_row, settled_rows};
-ghost use Rattle.seq_graph.specs.Known.{IsKnown, row_at};
-ghost use Rattle.seq_graph.specs.Settling.{AreSettledBelow};
+ghost use Rattle.seq_core.specs.Settled.{groups_in, size_at, settled_row, settled_rows, AreSettledBelow};
+ghost use Rattle.seq_graph.specs.Known.{IsKnown, AreSound, row_at};
 
+use crate::bounds::bounds_by;
 use crate::choice::least_test;
-use crate::events::revise;
+use crate::events::note;
 use crate::graph::Graph;
 use crate::look::look_at_all;
-use seq_core::smallest_first;
-use seq_huff::Scratch;
+use seq_core::{smallest_first, turns_settle};
 use seq_inst::Instance;
 use std::alloc::{AllocError, Global};
 
 /// Gives the row at a place its low and its value, where those of all smaller groups are settled.
-fn settle_row(
-    scratch: &mut Scratch,
-    inst: &Instance,
-    graph: &mut Graph,
-    place: usize,
-) -> Result<(), AllocError>
+fn settle_row(inst: &Instance, graph: &mut Graph, place: usize) -> Result<(), AllocError>
     requires known { IsKnown (problem_of inst.now) graph.old }
     requires place { place < length graph.old.rows.items }
+    requires sound { AreSound (problem_of inst.now) graph.old.rows.items }
     requires below { AreSettledBelow (problem_of inst.now) graph.old.rows.items (size_at graph.old.rows.items place) }
     ensures known { IfOk result (λ _. IsKnown (problem_of inst.now) graph.new) }
     ensures rows { IfOk result (λ _. graph.new.rows.items ≡ slice_set graph.old.rows.items place (settled_row (problem_of inst.now) (groups_in graph.old.rows.items) (row_at graph.old.rows.items place))) }
+    ensures sound { IfOk result (λ _. AreSound (problem_of inst.now) graph.new.rows.items) }
 {
-    let chosen = least_test(scratch, inst, graph, place)?;
-    look_at_all(scratch, inst, graph, place)?;
-    revise(inst, graph, place, chosen);
+    turns_settle();
+    let row = graph.rows[place];
+    if row.low == row.up {
+        return Ok(());
+    }
+    let chosen = least_test(inst, graph, place)?;
+    look_at_all(inst, graph, place)?;
+    let bounds = bounds_by(inst, graph, place, chosen);
+    note(inst, graph, place, bounds);
     Ok(())
 }
 
 /// Gives each row the low and the value that the rows' groups give it together.
-pub fn settle(
-    alloc: Global,
-    scratch: &mut Scratch,
-    inst: &Instance,
-    graph: &mut Graph,
-) -> Result<(), AllocError>
+pub fn settle(alloc: Global, inst: &Instance, graph: &mut Graph) -> Result<(), AllocError>
     requires known { IsKnown (problem_of inst.now) graph.old }
+    requires sound { AreSound (problem_of inst.now) graph.old.rows.items }
     ensures known { IfOk result (λ _. IsKnown (problem_of inst.now) graph.new) }
     ensures rows { IfOk result (λ _. graph.new.rows.items ≡ settled_rows (problem_of inst.now) graph.old.rows.items) }
 {
+    turns_settle();
     let order = smallest_first(alloc, graph.rows.as_slice())?;
     for turn in 0..order.len() {
-        settle_row(scratch, inst, graph, order[turn] as usize)?;
+        settle_row(inst, graph, order[turn] as usize)?;
     }
     Ok(())
 }

@@ -1,18 +1,19 @@
-//! What a walk does at a group: one step down. It goes by the test of least sum, with the passing part before
-//! the failing one: a part that is not known is entered; else the walk goes on in a part that is open; else
-//! both parts are closed, and so the group itself closes.
+//! What a walk does at a group: one step down. It goes by the test of least sum: a part that is not known
+//! is entered; else the walk goes on in a part that is open; else both parts are closed, and so the group
+//! itself closes. Which of the two parts is looked at first is the caller's choice: one thread takes the
+//! passing one, and of several workers some take the failing one, so that they part ways.
 ghost use Rattle.std.specs.Prelude.{◌≡◌, ◌<◌, List, ℕ, length, IfOk};
 ghost use Rattle.seq_inst.specs.Members.{members};
 ghost use Rattle.seq_inst.specs.Instances.{problem_of};
 ghost use Rattle.seq_graph.specs.Numbered.{HasNumber};
 ghost use Rattle.seq_graph.specs.Known.{IsKnown, group_at};
-ghost use Rattle.seq_graph.specs.Steps.{IsStep, step_by};
+ghost use Rattle.seq_graph.specs.Steps.{IsStep, EntersFirst, step_by};
 ghost use Rattle.seq_graph.specs.Parts.{IsKnowledge};
 
 use crate::choice::least_test;
 use crate::graph::Graph;
-use seq_huff::Scratch;
-use seq_inst::{Group, Instance};
+use seq_inst::{Answer, Group, Instance};
+use seq_theory::walks_hold;
 use std::alloc::AllocError;
 
 /// What a walk does at a group.
@@ -65,41 +66,47 @@ fn knowledge_of(inst: &Instance, graph: &Graph, number: u32) -> Knowledge
     }
 }
 
-/// What the walk does at a group, by what is known of both parts.
-fn step_of(pass: Group, pass_known: Knowledge, fail: Group, fail_known: Knowledge) -> Step
-    ensures { result ≡ step_by pass pass_known fail fail_known }
+/// What the walk does at a group, by what is known of both parts. The one comes first.
+fn step_of(one: Group, one_known: Knowledge, other: Group, other_known: Knowledge) -> Step
+    ensures { result ≡ step_by one one_known other other_known }
 {
-    match pass_known {
-        Knowledge::Unknown => Step::Enter { group: pass },
-        Knowledge::Open { place } => match fail_known {
-            Knowledge::Unknown => Step::Enter { group: fail },
+    match one_known {
+        Knowledge::Unknown => Step::Enter { group: one },
+        Knowledge::Open { place } => match other_known {
+            Knowledge::Unknown => Step::Enter { group: other },
             _ => Step::Down { place },
         },
-        Knowledge::Closed => match fail_known {
-            Knowledge::Unknown => Step::Enter { group: fail },
+        Knowledge::Closed => match other_known {
+            Knowledge::Unknown => Step::Enter { group: other },
             Knowledge::Open { place } => Step::Down { place },
             Knowledge::Closed => Step::Close,
         },
     }
 }
 
-/// What the walk does at a group, by its test of least sum.
+/// What the walk does at a group, by its test of least sum. Of its two parts that of the first answer comes
+/// first.
 pub fn next_step(
-    scratch: &mut Scratch,
     inst: &Instance,
     graph: &mut Graph,
     place: usize,
+    first: Answer,
 ) -> Result<Step, AllocError>
     requires known { IsKnown (problem_of inst.now) graph.old }
     requires place { place < length graph.old.rows.items }
     ensures known { IfOk result (λ _. IsKnown (problem_of inst.now) graph.new) }
     ensures rows { IfOk result (λ _. graph.new.rows.items ≡ graph.old.rows.items) }
     ensures step { IfOk result (IsStep (problem_of inst.now) graph.old.rows.items (members (group_at graph.old.rows.items place))) }
+    ensures first { IfOk result (EntersFirst (problem_of inst.now) graph.old.rows.items (members (group_at graph.old.rows.items place)) first) }
 {
-    let split = least_test(scratch, inst, graph, place)?.split;
+    walks_hold();
+    let split = least_test(inst, graph, place)?.split;
     let pass_part = graph.numbers.group_at(split.pass);
     let fail_part = graph.numbers.group_at(split.fail);
     let pass_known = knowledge_of(inst, graph, split.pass);
     let fail_known = knowledge_of(inst, graph, split.fail);
-    Ok(step_of(pass_part, pass_known, fail_part, fail_known))
+    match first {
+        Answer::Pass => Ok(step_of(pass_part, pass_known, fail_part, fail_known)),
+        Answer::Fail => Ok(step_of(fail_part, fail_known, pass_part, pass_known)),
+    }
 }

@@ -4,7 +4,6 @@ ghost use Rattle.seq_inst.specs.Instances.{problem_of};
 ghost use Rattle.seq_graph.specs.Numbered.{AreNumbers};
 
 use crate::{Node, Numbers, Split};
-use seq_huff::Scratch;
 use seq_inst::{Answer, Group, Instance, Strategy, checked_holds, part, root};
 use std::alloc::{AllocError, Global};
 use std::test::Fail;
@@ -43,25 +42,17 @@ fn more_room(inst: &Instance, numbers: &mut Numbers) -> Result<(), AllocError>
 #[test]
 fn what_is_kept_of_two_faults(rt: HostRuntime) -> Result<(), Fail> {
     let alloc = rt.alloc();
-    let mut scratch = Scratch::new();
     let inst = two_faults(alloc)?;
     let all = root(&inst);
     let passing = part(&inst, &all, 0, Answer::Pass);
     let mut numbers = no_numbers(alloc, &inst)?;
-    let mut kept = Node::of(
-        &mut scratch,
-        &mut numbers,
-        &inst,
-        &all,
-        Vec::new(alloc),
-        Vec::new(alloc),
-    )?;
+    let mut kept = Node::of(&mut numbers, &inst, &all, Vec::new(alloc), Vec::new(alloc))?;
     assert_eq!(rt; (kept.number, kept.weight), (0, 10));
     assert_eq!(rt; (kept.bound, kept.greedy), (18, 27));
     assert_eq!(rt; kept.splits.len(), 0);
     // Test 1 would cost 10 + 18, which is more than greedy, so test 0 waits alone.
     assert_eq!(rt; kept.waiting.len(), 1);
-    kept.evaluate(&mut scratch, &mut numbers, &inst, &all, 0)?;
+    kept.evaluate(&mut numbers, &inst, &all, 0)?;
     let first = Split {
         test: 0,
         pass: 1,
@@ -77,19 +68,18 @@ fn what_is_kept_of_two_faults(rt: HostRuntime) -> Result<(), Fail> {
 #[test]
 fn numbers_while_there_is_room(rt: HostRuntime) -> Result<(), Fail> {
     let alloc = rt.alloc();
-    let mut scratch = Scratch::new();
     let inst = two_faults(alloc)?;
     let all = root(&inst);
     let mut numbers = no_numbers(alloc, &inst)?;
-    let without = numbers.number_within(&mut scratch, &inst, &all);
+    let without = numbers.number_within(&inst, &all);
     assert_eq!(rt; without, None);
     more_room(&inst, &mut numbers)?;
-    let with = numbers.number_within(&mut scratch, &inst, &all);
+    let with = numbers.number_within(&inst, &all);
     assert_eq!(rt; with, Some(0));
     assert_eq!(rt; numbers.find(&all), Some(0));
-    let cost = numbers.greedy_of(&mut scratch, &inst, &all);
+    let cost = numbers.greedy_of(&inst, &all);
     assert_eq!(rt; cost, 27);
-    let tree = numbers.greedy_tree(alloc, &mut scratch, &inst, &all)?;
+    let tree = numbers.greedy_tree(alloc, &inst, &all)?;
     assert!(rt; matches!(tree, Strategy::Ask { test: 0, .. }));
     Ok(())
 }

@@ -10,7 +10,6 @@ use crate::choice::Chosen;
 use crate::counts::count_new;
 use crate::graph::Graph;
 use crate::node::{Split, Waiting};
-use seq_huff::Scratch;
 use seq_inst::Instance;
 use std::alloc::AllocError;
 
@@ -45,7 +44,6 @@ pub(crate) fn next_waiting(waiting: &[Waiting], chosen: Option<Chosen>) -> Optio
 
 /// Evaluates the test that waits at this place of the list. It is then the last of the evaluated ones.
 pub(crate) fn evaluate(
-    scratch: &mut Scratch,
     inst: &Instance,
     graph: &mut Graph,
     place: usize,
@@ -62,7 +60,7 @@ pub(crate) fn evaluate(
     ensures fewer { IfOk result (λ _. length (waiting_at graph.new.nodes.items place) < length (waiting_at graph.old.nodes.items place)) }
 {
     let group = graph.rows[place].group;
-    graph.nodes[place].evaluate(scratch, &mut graph.numbers, inst, &group, at)?;
+    graph.nodes[place].evaluate(&mut graph.numbers, inst, &group, at)?;
     count_new(inst, &graph.numbers, &mut graph.counts)?;
     let splits = graph.nodes[place].splits.as_slice();
     Ok(splits[splits.len() - 1])

@@ -1,9 +1,11 @@
 -- What the greedy calls owe.
 use Rattle.std.proofs.Common.{◌≡◌, ℕ, ◌≤◌, List, [], ◌∷◌, ◌++◌, refl, sym, ap, ◌∙◌, subst, Option, Some, None}
 use Rattle.std.specs.Prelude.{Bool, true, false, cond, nat_le}
-use Rattle.seq_theory.specs.Problem.{Problem, IsIn, IsWithin, AreTold, is_end, splitting}
+use Rattle.seq_theory.specs.Problem.{Problem, IsIn, IsWithin, AreTold, is_end, splitting, pass_part, fail_part}
+use Rattle.seq_theory.specs.Tree.{leaf, ask}
+use Rattle.seq_theory.specs.Recursions.{RecursionsHold}
 use Rattle.seq_theory.specs.Bound.{bound, step_sum}
-use Rattle.seq_theory.specs.Greedy.{first_least, greedy_test, greedy_cost}
+use Rattle.seq_theory.specs.Greedy.{first_least, greedy_test, greedy, greedy_cost}
 use Rattle.seq_theory.proofs.LeastOfLaws.{first_least-last}
 pub use Rattle.seq_theory.proofs.GreedyParts.{cost-end, GreedyParts, greedy_there, greedy_parts}
 use Rattle.seq_theory.proofs.GreedyLaws.{greedy_test_splits}
@@ -71,3 +73,15 @@ chosen-some p group told within e s = go (splitting p group) (greedy_test_splits
 
 pub greedy-small : (inst : Instance) (g : Group) → IsWithin (problem_of inst) (members g) → greedy_cost (problem_of inst) (members g) ≤ 2097664000000000000
 greedy-small inst g within = inst.stands.greedy_fits g within
+
+-- greedy's tree, by its recursion: a leaf for one goal, else the greedy test and greedy in both parts
+pub greedy-leaf : RecursionsHold → (p : Problem) (group : List ℕ) → AreTold p → IsWithin p group → is_end p group ≡ true → greedy p group ≡ leaf
+greedy-leaf law p group told within e = (law p group told within).greedy_recurs ∙ ap (λ b. cond b leaf (ask (greedy_test p group) (greedy p (pass_part p (greedy_test p group) group)) (greedy p (fail_part p (greedy_test p group) group)))) e
+
+pub greedy-asks : RecursionsHold → (p : Problem) (group pass fail : List ℕ) (t : ℕ) → AreTold p → IsWithin p group → is_end p group ≡ false → t ≡ greedy_test p group → pass ≡ pass_part p t group → fail ≡ fail_part p t group → greedy p group ≡ ask t (greedy p pass) (greedy p fail)
+greedy-asks law p group pass fail t told within e test_is pass_is fail_is =
+    (law p group told within).greedy_recurs
+    ∙ ap (λ b. cond b leaf (ask (greedy_test p group) (greedy p (pass_part p (greedy_test p group) group)) (greedy p (fail_part p (greedy_test p group) group)))) e
+    ∙ ap (λ u. ask u (greedy p (pass_part p u group)) (greedy p (fail_part p u group))) (sym test_is)
+    ∙ ap (λ x. ask t (greedy p x) (greedy p (fail_part p t group))) (sym pass_is)
+    ∙ ap (λ x. ask t (greedy p pass) (greedy p x)) (sym fail_is)

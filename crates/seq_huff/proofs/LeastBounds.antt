@@ -6,9 +6,10 @@ use Rattle.seq_theory.specs.Tree.{Tree, Solves, IsLeast}
 use Rattle.seq_theory.specs.Bound.{bound}
 use Rattle.seq_theory.specs.Greedy.{one_step, greedy, greedy_cost}
 use Rattle.seq_theory.specs.Huffman.{huff}
-use Rattle.seq_theory.proofs.PublicLaws.{bounds_hold, has_least}
-use Rattle.seq_theory.proofs.HuffmanLaws.{huffman_is_least}
-use Rattle.seq_theory.proofs.GreedyLaws.{bound-le-one_step, greedy-solves}
+use Rattle.seq_theory.specs.HuffmanLaw.{HuffmanIsLeast}
+use Rattle.seq_theory.specs.Laws.{BoundsHold}
+use Rattle.seq_theory.proofs.PublicLaws.{has_least}
+use Rattle.seq_theory.proofs.GreedyLaws.{greedy-solves}
 use Rattle.seq_theory.proofs.LeastOfLaws.{lesser}
 use Rattle.seq_theory.proofs.WantedLaws.{one_step-wanted}
 use Rattle.seq_inst.specs.declared.instance.Instance.{Instance}
@@ -19,8 +20,8 @@ use Rattle.seq_huff.specs.Choice.{lesser_number}
 pub weighed : (inst : Instance) → IsWeighed (problem_of inst)
 weighed inst = inst.stands.weighed
 
-pub huffman-undercuts : (weights : List ℕ) (n : ℕ) → n ≡ huff weights → UndercutsTrees weights n
-huffman-undercuts weights n is t same = let f = huffman_is_least weights t same in omega arith
+pub huffman-undercuts : HuffmanIsLeast → (weights : List ℕ) (n : ℕ) → n ≡ huff weights → UndercutsTrees weights n
+huffman-undercuts law weights n is t same = let f = law weights t same in omega arith
 
 -- what is at most the least cost is at most what each right strategy costs
 at_most-each : (inst : Instance) (group : List ℕ) (n : ℕ) → IsWithin (problem_of inst) group → ((least : ℕ) → IsLeast (problem_of inst) group least → n ≤ least) → IsAtMostLeast (problem_of inst) group n
@@ -30,27 +31,27 @@ at_most-each inst group n within le tree s =
     let b = some.1.least tree s in
     omega arith
 
-pub bound-low : (inst : Instance) (group : List ℕ) (n : ℕ) → IsWithin (problem_of inst) group → n ≡ bound (problem_of inst) group → IsAtMostLeast (problem_of inst) group n
-bound-low inst group n within is = at_most-each inst group n within (λ least l.
-    let b = bounds_hold (problem_of inst) group least inst.stands.weighed inst.valid.told within l in
+pub bound-low : BoundsHold → (inst : Instance) (group : List ℕ) (n : ℕ) → IsWithin (problem_of inst) group → n ≡ bound (problem_of inst) group → IsAtMostLeast (problem_of inst) group n
+bound-low law inst group n within is = at_most-each inst group n within (λ least l.
+    let b = law (problem_of inst) group least inst.stands.weighed inst.valid.told within l in
     let f1 = b.bound_low in
     let f2 = b.one_step_low in
     omega arith)
 
-pub one_step-holds : (inst : Instance) (group : List ℕ) (n : ℕ) → IsWithin (problem_of inst) group → n ≡ one_step (problem_of inst) group → greedy_cost (problem_of inst) group ≤ greatest_cost → record {
+pub one_step-holds : BoundsHold → (inst : Instance) (group : List ℕ) (n : ℕ) → IsWithin (problem_of inst) group → n ≡ one_step (problem_of inst) group → greedy_cost (problem_of inst) group ≤ greatest_cost → record {
   value : n ≡ one_step (problem_of inst) group;
   above : bound (problem_of inst) group ≤ n;
   low : IsAtMostLeast (problem_of inst) group n;
   wanted : WantsParts (problem_of inst) group n;
   fits : n ≤ greatest_cost;
 }
-one_step-holds inst group n within is small = record {
+one_step-holds law inst group n within is small = record {
   value = is;
-  above = (let f = bound-le-one_step (problem_of inst) group in omega arith);
-  low = at_most-each inst group n within (λ least l. let f = (bounds_hold (problem_of inst) group least inst.stands.weighed inst.valid.told within l).one_step_low in omega arith);
+  above = (let some = has_least (problem_of inst) group inst.valid.told within in let f = (law (problem_of inst) group some.0 inst.stands.weighed inst.valid.told within some.1).bound_low in omega arith);
+  low = at_most-each inst group n within (λ least l. let f = (law (problem_of inst) group least inst.stands.weighed inst.valid.told within l).one_step_low in omega arith);
   fits =
       (let some = has_least (problem_of inst) group inst.valid.told within in
-      let stand = bounds_hold (problem_of inst) group some.0 inst.stands.weighed inst.valid.told within some.1 in
+      let stand = law (problem_of inst) group some.0 inst.stands.weighed inst.valid.told within some.1 in
       let below = stand.one_step_low in
       let above = stand.greedy_high in
       omega arith);

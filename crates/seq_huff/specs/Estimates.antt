@@ -5,6 +5,10 @@ use Rattle.seq_theory.specs.Bound.{sum_first, splitting_costs}
 use Rattle.seq_huff.specs.declared.mass.Mass.{Mass}
 use Rattle.seq_huff.specs.declared.estimate.Estimate.{Estimate}
 use Rattle.seq_huff.specs.Potential.{potentials}
+use Rattle.seq_inst.specs.declared.group.Group.{Group}
+use Rattle.seq_inst.specs.declared.instance.Instance.{Instance}
+use Rattle.seq_inst.specs.Instances.{problem_of}
+use Rattle.seq_inst.specs.Members.{members}
 
 -- how many classes a group has, what they weigh, and the sum of their potentials
 pub record IsMassOf (p : Problem) (group : List ℕ) (m : Mass) : Type 0 where
@@ -28,3 +32,11 @@ sum_without sums cost count = max (slice_index sums count) (slice_index sums (co
 -- the bound that is made from such sums
 abbrev pub bound_without : List ℕ → ℕ → (weight huffman : ℕ) → ℕ
 bound_without sums cost weight huffman = (weight - huffman % weight) * sum_without sums cost (huffman / weight) + huffman % weight * sum_without sums cost (huffman / weight + 1)
+
+-- the mass of this group of the instance
+abbrev pub IsMassFor : Instance → Group → Mass → Type 0
+IsMassFor inst group mass = IsMassOf (problem_of inst) (members group) mass
+
+-- what the estimates of this group of the instance are made from
+abbrev pub IsEstimateFor : Instance → Group → Estimate → Type 0
+IsEstimateFor inst group estimate = IsEstimateOf (problem_of inst) (members group) estimate

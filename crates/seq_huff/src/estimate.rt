@@ -8,17 +8,17 @@
 //! those that split a part are among them. No clause says how near the number comes to the sum: 0 would be
 //! right too, and every test then be evaluated.
 ghost use Rattle.std.specs.Prelude.{◌≡◌, ℕ, ◌*◌, ◌<◌, ◌≤◌, true, vec_len, slice_index};
-ghost use Rattle.seq_theory.specs.Problem.{IsWithin, splits as is_split};
+ghost use Rattle.seq_theory.specs.Problem.{splits as is_split};
 ghost use Rattle.seq_theory.specs.Bound.{bound as bound_of, step_sum};
 ghost use Rattle.seq_inst.specs.Members.{members};
-ghost use Rattle.seq_inst.specs.Instances.{problem_of};
-ghost use Rattle.seq_huff.specs.Orders.{IsOrderOf};
-ghost use Rattle.seq_huff.specs.Estimates.{IsEstimateOf, sum_without as sum_of_others, bound_without};
+ghost use Rattle.seq_inst.specs.Instances.{problem_of, IsGroupOf};
+ghost use Rattle.seq_huff.specs.Orders.{IsOrderFor};
+ghost use Rattle.seq_huff.specs.Estimates.{sum_without as sum_of_others, bound_without, IsEstimateFor};
 
 use crate::mass::{Mass, least_huffman, mass_of, masses_of};
 use crate::order::Order;
 use crate::sums::first_sums;
-use seq_inst::{Answer, Group, Instance, part};
+use seq_inst::{Group, Instance, parts_of};
 
 /// What the estimates of a group's tests share: the group's mass, and by number the sum of so many of the
 /// cheapest tests that split it.
@@ -31,9 +31,9 @@ pub struct Estimate {
 impl Estimate {
     /// What the estimates of the group's tests share. The order is that of the instance.
     pub fn of(order: &Order, inst: &Instance, group: &Group) -> Estimate
-        requires order { IsOrderOf (problem_of inst.now) order.now }
-        requires within { IsWithin (problem_of inst.now) (members group.now) }
-        ensures { IsEstimateOf (problem_of inst.now) (members group.now) result }
+        requires order { IsOrderFor inst.now order.now }
+        requires within { IsGroupOf inst.now group.now }
+        ensures { IsEstimateFor inst.now group.now result }
     {
         Estimate {
             mass: mass_of(order, inst, group),
@@ -45,19 +45,18 @@ impl Estimate {
     /// `of`, and the test splits it. It counts the classes of one part, walks over those of the smaller
     /// part, and takes a few dozen steps more.
     pub fn least_sum(&self, order: &Order, inst: &Instance, group: &Group, test: u32) -> u64
-        requires order { IsOrderOf (problem_of inst.now) order.now }
-        requires within { IsWithin (problem_of inst.now) (members group.now) }
-        requires of { IsEstimateOf (problem_of inst.now) (members group.now) self.now }
+        requires order { IsOrderFor inst.now order.now }
+        requires within { IsGroupOf inst.now group.now }
+        requires of { IsEstimateFor inst.now group.now self.now }
         requires there { test < vec_len inst.now.costs }
         requires splits { is_split (problem_of inst.now) (members group.now) test ≡ true }
         ensures { result ≤ step_sum (problem_of inst.now) (bound_of (problem_of inst.now)) (members group.now) test }
     {
         let cost = u64::from(inst.costs[test as usize]);
-        let pass = part(inst, group, test, Answer::Pass);
-        let fail = part(inst, group, test, Answer::Fail);
-        let masses = masses_of(order, inst, self.mass, &pass, &fail);
-        let pass_huffman = least_huffman(inst, &pass, masses.pass);
-        let fail_huffman = least_huffman(inst, &fail, masses.fail);
+        let parts = parts_of(inst, group, test);
+        let masses = masses_of(order, inst, self.mass, &parts.pass, &parts.fail);
+        let pass_huffman = least_huffman(inst, &parts.pass, masses.pass);
+        let fail_huffman = least_huffman(inst, &parts.fail, masses.fail);
         let pass_least = self.least_bound(cost, masses.pass.weight, pass_huffman);
         let fail_least = self.least_bound(cost, masses.fail.weight, fail_huffman);
         cost * self.mass.weight + (pass_least + fail_least)

@@ -2,16 +2,17 @@
 //! written as a whole number of times the group's weight and a rest, it is paid with the cheapest
 //! splitting tests, each at most once on a class's way.
 ghost use Rattle.std.specs.Prelude.{◌≡◌, ◌^◌, ◌<◌, ◌≤◌, length, take, map, sum};
-ghost use Rattle.seq_theory.specs.Problem.{IsWithin, splitting};
+ghost use Rattle.seq_theory.specs.Problem.{splitting};
 ghost use Rattle.seq_theory.specs.Bound.{sum_first, next_after, bound as bound_of};
 ghost use Rattle.seq_inst.specs.Members.{members};
-ghost use Rattle.seq_inst.specs.Instances.{problem_of};
+ghost use Rattle.seq_inst.specs.Instances.{problem_of, IsGroupOf};
 ghost use Rattle.seq_huff.specs.Bounds.{IsAtMostLeast, greatest_cost};
 
 use crate::scratch::Scratch;
 use crate::sorting::sort_upward;
 use crate::weights::huffman;
 use seq_inst::{Group, Instance, is_leaf, splits, weight_of};
+use seq_theory::bounds_hold;
 
 /// Writes the costs of the tests that split the group, and says how many there are.
 fn write_costs(inst: &Instance, group: &Group, out: &mut [u64]) -> usize
@@ -52,11 +53,12 @@ fn number_after(numbers: &[u64], count: u64) -> u64
 
 /// The lower bound of the group's least cost; 0 for one goal.
 pub fn bound(scratch: &mut Scratch, inst: &Instance, group: &Group) -> u64
-    requires { IsWithin (problem_of inst.now) (members group.now) }
+    requires { IsGroupOf inst.now group.now }
     ensures value { result ≡ bound_of (problem_of inst.now) (members group.now) }
     ensures low { IsAtMostLeast (problem_of inst.now) (members group.now) result }
     ensures fits { result ≤ greatest_cost }
 {
+    bounds_hold();
     if is_leaf(inst, group) {
         return 0;
     }

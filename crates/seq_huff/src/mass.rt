@@ -2,14 +2,14 @@
 //! together. All three are sums over the classes, so the mass of one part of a group gives that of the
 //! other; and the mass alone says how much Huffman's cost of the group is at least.
 ghost use Rattle.std.specs.Prelude.{◌≡◌, ◌+◌, ◌*◌, ◌^◌, ◌<◌, ◌≤◌, ℕ, length};
-ghost use Rattle.seq_theory.specs.Problem.{IsWithin, weight_of};
+ghost use Rattle.seq_theory.specs.Problem.{weight_of};
 ghost use Rattle.seq_theory.specs.Huffman.{huff};
 ghost use Rattle.seq_theory.specs.Bound.{goal_weights};
 ghost use Rattle.seq_inst.specs.Members.{members};
-ghost use Rattle.seq_inst.specs.Instances.{problem_of};
-ghost use Rattle.seq_huff.specs.Orders.{IsOrderOf};
+ghost use Rattle.seq_inst.specs.Instances.{problem_of, IsGroupOf};
+ghost use Rattle.seq_huff.specs.Orders.{IsOrderFor};
 ghost use Rattle.seq_huff.specs.Potential.{unit, potential as potential_at, potentials};
-ghost use Rattle.seq_huff.specs.Estimates.{IsMassOf};
+ghost use Rattle.seq_huff.specs.Estimates.{IsMassFor};
 
 use crate::order::Order;
 use crate::potential::{UNIT, nearly_potential};
@@ -32,9 +32,9 @@ pub(crate) struct PartMasses {
 
 /// The mass of the group. It goes from class to class, and passes over words without one.
 pub(crate) fn mass_of(order: &Order, inst: &Instance, group: &Group) -> Mass
-    requires order { IsOrderOf (problem_of inst.now) order.now }
-    requires within { IsWithin (problem_of inst.now) (members group.now) }
-    ensures { IsMassOf (problem_of inst.now) (members group.now) result }
+    requires order { IsOrderFor inst.now order.now }
+    requires within { IsGroupOf inst.now group.now }
+    ensures { IsMassFor inst.now group.now result }
 {
     let mut classes = 0;
     let mut weight = 0;
@@ -78,14 +78,14 @@ pub(crate) fn masses_of(
     pass: &Group,
     fail: &Group,
 ) -> PartMasses
-    requires order { IsOrderOf (problem_of inst.now) order.now }
-    requires within_pass { IsWithin (problem_of inst.now) (members pass.now) }
-    requires within_fail { IsWithin (problem_of inst.now) (members fail.now) }
+    requires order { IsOrderFor inst.now order.now }
+    requires within_pass { IsGroupOf inst.now pass.now }
+    requires within_fail { IsGroupOf inst.now fail.now }
     requires classes { whole.classes ≡ length (members pass.now) + length (members fail.now) }
     requires weight { whole.weight ≡ weight_of (problem_of inst.now) (members pass.now) + weight_of (problem_of inst.now) (members fail.now) }
     requires potential { whole.potential ≡ potentials (problem_of inst.now) (members pass.now) + potentials (problem_of inst.now) (members fail.now) }
-    ensures pass { IsMassOf (problem_of inst.now) (members pass.now) result.pass }
-    ensures fail { IsMassOf (problem_of inst.now) (members fail.now) result.fail }
+    ensures pass { IsMassFor inst.now pass.now result.pass }
+    ensures fail { IsMassFor inst.now fail.now result.fail }
 {
     if count_of(pass) <= whole.classes / 2 {
         let mass = mass_of(order, inst, pass);
@@ -116,8 +116,8 @@ fn huffman_by_mass(mass: Mass) -> u64
 /// At most Huffman's cost of a group of this mass. Where one class has most of the weight its potential
 /// says little; but the last merge of two classes or more costs the whole weight.
 pub(crate) fn least_huffman(inst: &Instance, group: &Group, mass: Mass) -> u64
-    requires within { IsWithin (problem_of inst.now) (members group.now) }
-    requires mass { IsMassOf (problem_of inst.now) (members group.now) mass }
+    requires within { IsGroupOf inst.now group.now }
+    requires mass { IsMassFor inst.now group.now mass }
     ensures { result ≤ huff (goal_weights (problem_of inst.now) (members group.now)) }
 {
     if is_leaf(inst, group) {

@@ -3,18 +3,19 @@
 //! cheapest on. Only the first splitting ones count, as many as Huffman's cost has whole weights of the
 //! group and one more, so the walk over the tests ends there.
 ghost use Rattle.std.specs.Prelude.{◌≡◌, ◌^◌, ◌<◌, ◌≤◌, false, sum};
-ghost use Rattle.seq_theory.specs.Problem.{IsWithin, is_end};
+ghost use Rattle.seq_theory.specs.Problem.{is_end};
 ghost use Rattle.seq_theory.specs.Bound.{sum_first, next_after, splitting_costs, bound as bound_of};
 ghost use Rattle.seq_inst.specs.Members.{members};
-ghost use Rattle.seq_inst.specs.Instances.{problem_of};
+ghost use Rattle.seq_inst.specs.Instances.{problem_of, IsGroupOf};
 ghost use Rattle.seq_huff.specs.Bounds.{IsAtMostLeast, greatest_cost};
-ghost use Rattle.seq_huff.specs.Orders.{IsOrderOf};
+ghost use Rattle.seq_huff.specs.Orders.{IsOrderFor};
 
 use crate::merging::merge_sum;
 use crate::order::Order;
 use crate::ranked::write_upward;
 use crate::scratch::Scratch;
 use seq_inst::{Group, Instance, is_leaf, splits};
+use seq_theory::bounds_hold;
 
 /// The sum of the first so many costs of splitting tests, and the cost after these, or 0.
 #[derive(Clone, Copy)]
@@ -25,8 +26,8 @@ struct FirstCosts {
 
 /// The first so many costs of the tests that split the group, from the cheapest on.
 fn first_costs(order: &Order, inst: &Instance, group: &Group, count: u64) -> FirstCosts
-    requires order { IsOrderOf (problem_of inst.now) order.now }
-    requires within { IsWithin (problem_of inst.now) (members group.now) }
+    requires order { IsOrderFor inst.now order.now }
+    requires within { IsGroupOf inst.now group.now }
     requires more { is_end (problem_of inst.now) (members group.now) ≡ false }
     ensures sum { result.sum ≡ sum_first count (splitting_costs (problem_of inst.now) (members group.now)) }
     ensures next { result.next ≡ next_after count (splitting_costs (problem_of inst.now) (members group.now)) }
@@ -58,12 +59,13 @@ fn sum_of(numbers: &[u64]) -> u64
 /// The lower bound of the group's least cost, as `bound` gives it; 0 for one goal. The order is that of
 /// the instance.
 pub fn ordered_bound(scratch: &mut Scratch, order: &Order, inst: &Instance, group: &Group) -> u64
-    requires order { IsOrderOf (problem_of inst.now) order.now }
-    requires within { IsWithin (problem_of inst.now) (members group.now) }
+    requires order { IsOrderFor inst.now order.now }
+    requires within { IsGroupOf inst.now group.now }
     ensures value { result ≡ bound_of (problem_of inst.now) (members group.now) }
     ensures low { IsAtMostLeast (problem_of inst.now) (members group.now) result }
     ensures fits { result ≤ greatest_cost }
 {
+    bounds_hold();
     if is_leaf(inst, group) {
         return 0;
     }

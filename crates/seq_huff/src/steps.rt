@@ -1,17 +1,18 @@
 //! The bound one test further: whatever a strategy asks first, it pays that test over the whole group
 //! and at least the bounds of both parts.
 ghost use Rattle.std.specs.Prelude.{◌≡◌, ◌<◌, ◌≤◌, vec_len};
-ghost use Rattle.seq_theory.specs.Problem.{IsWithin, weight_of as weight_sum};
+ghost use Rattle.seq_theory.specs.Problem.{weight_of as weight_sum};
 ghost use Rattle.seq_theory.specs.Bound.{step_sum as step_sum_of, bound as bound_of};
 ghost use Rattle.seq_theory.specs.Greedy.{one_step as one_step_of};
 ghost use Rattle.seq_inst.specs.Members.{members};
-ghost use Rattle.seq_inst.specs.Instances.{problem_of};
+ghost use Rattle.seq_inst.specs.Instances.{problem_of, IsGroupOf};
 ghost use Rattle.seq_huff.specs.Bounds.{IsAtMostLeast, WantsParts, greatest_cost};
 ghost use Rattle.seq_huff.specs.Choice.{lesser_number};
 
 use crate::lower::bound;
 use crate::scratch::Scratch;
-use seq_inst::{Answer, Group, Instance, is_leaf, part, splits, weight_of};
+use seq_inst::{Group, Instance, is_leaf, parts_of, splits, weight_of};
+use seq_theory::bounds_hold;
 
 /// The sum of a test over the group, of which the weight is known, and the bounds of its parts.
 pub(crate) fn step_sum(
@@ -21,15 +22,14 @@ pub(crate) fn step_sum(
     test: u32,
     weight: u64,
 ) -> u64
-    requires within { IsWithin (problem_of inst.now) (members group.now) }
+    requires within { IsGroupOf inst.now group.now }
     requires there { test < vec_len inst.now.costs }
     requires weight { weight ≡ weight_sum (problem_of inst.now) (members group.now) }
     ensures { result ≡ step_sum_of (problem_of inst.now) (bound_of (problem_of inst.now)) (members group.now) test }
 {
-    let pass_part = part(inst, group, test, Answer::Pass);
-    let pass = bound(scratch, inst, &pass_part);
-    let fail_part = part(inst, group, test, Answer::Fail);
-    let fail = bound(scratch, inst, &fail_part);
+    let parts = parts_of(inst, group, test);
+    let pass = bound(scratch, inst, &parts.pass);
+    let fail = bound(scratch, inst, &parts.fail);
     u64::from(inst.costs[test as usize]) * weight + (pass + fail)
 }
 
@@ -46,13 +46,14 @@ fn lesser_of(earlier: Option<u64>, number: u64) -> u64
 /// The larger of the bound and the least sum of a splitting test and the bounds of its parts; 0 for
 /// one goal.
 pub fn one_step(scratch: &mut Scratch, inst: &Instance, group: &Group) -> u64
-    requires { IsWithin (problem_of inst.now) (members group.now) }
+    requires { IsGroupOf inst.now group.now }
     ensures value { result ≡ one_step_of (problem_of inst.now) (members group.now) }
     ensures above { bound_of (problem_of inst.now) (members group.now) ≤ result }
     ensures low { IsAtMostLeast (problem_of inst.now) (members group.now) result }
     ensures wanted { WantsParts (problem_of inst.now) (members group.now) result }
     ensures fits { result ≤ greatest_cost }
 {
+    bounds_hold();
     if is_leaf(inst, group) {
         return 0;
     }

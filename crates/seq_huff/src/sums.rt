@@ -1,11 +1,10 @@
 //! The sums of the first so many costs of a group's splitting tests, from the cheapest on. They are made
 //! once for a group; what any number of its cheapest tests costs together is then one step.
 ghost use Rattle.std.specs.Prelude.{◌≡◌, ℕ, ◌+◌, ◌<◌, ◌≤◌, length, slice_index};
-ghost use Rattle.seq_theory.specs.Problem.{IsWithin};
 ghost use Rattle.seq_theory.specs.Bound.{splitting_costs};
 ghost use Rattle.seq_inst.specs.Members.{members};
 ghost use Rattle.seq_inst.specs.Instances.{problem_of};
-ghost use Rattle.seq_huff.specs.Orders.{IsOrderOf};
+ghost use Rattle.seq_huff.specs.Orders.{IsOrderFor};
 ghost use Rattle.seq_huff.specs.Estimates.{AreSums};
 
 use crate::order::Order;
@@ -14,7 +13,7 @@ use seq_inst::{Group, Instance, splits};
 /// Writes the sums of the first so many costs, from none to all of them, and says how many costs there
 /// are.
 fn write_sums(order: &Order, inst: &Instance, group: &Group, out: &mut [u64]) -> usize
-    requires order { IsOrderOf (problem_of inst.now) order.now }
+    requires order { IsOrderFor inst.now order.now }
     requires room { 258 ≤ length out.old }
     ensures sums { AreSums (splitting_costs (problem_of inst.now) (members group.now)) out.new (result + 1) }
     ensures all { length (splitting_costs (problem_of inst.now) (members group.now)) ≤ result }
@@ -46,7 +45,7 @@ fn write_from(out: &mut [u64], start: usize, number: u64)
 
 /// The sums of the first so many costs of the tests that split the group, or of all where there are fewer.
 pub(crate) fn first_sums(order: &Order, inst: &Instance, group: &Group) -> [u64; 258]
-    requires { IsOrderOf (problem_of inst.now) order.now }
+    requires { IsOrderFor inst.now order.now }
     ensures { AreSums (splitting_costs (problem_of inst.now) (members group.now)) result 258 }
 {
     let mut sums = [0; 258];

@@ -1,5 +1,6 @@
 pub mod MembersLaws
 pub mod WordLaws
+pub mod LaneLaws
 pub mod FirstLaws
 pub mod AheadLaws
 pub mod SameGroups

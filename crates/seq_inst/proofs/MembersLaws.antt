@@ -1,7 +1,6 @@
 -- Groups word by word and class by class.
 use Rattle.std.proofs.Common.{◌≡◌, ℕ, ◌+◌, ◌/◌, ◌%◌, ◌<◌, ◌≤◌, List, [], ◌∷◌, ◌++◌, length, get_or, refl, sym, ap, ◌∙◌, arith, inl, inr}
 use Rattle.std.specs.Prelude.{Bool, true, false, not, ◌&&◌, cond, filter, nat_eq, bit_and, bit_xor}
-use Rattle.std.proofs.Common.{◌≢◌, set, below_more, get_or-set_same, get_or-set_other}
 use Rattle.std.specs.Int.{bit_at}
 use Rattle.std.proofs.lemmas.Bool.{cases_Bool, cases_lt, eq-eqb, ne_eqb}
 use Rattle.std.proofs.lemmas.Nat.Bits.{bit_at_and, bit_at_xor, bit_at-lt}
@@ -81,9 +80,3 @@ members_below-zero g = passing-zero (has_class g)
 
 pub length-members_below : (g : Group) (n : ℕ) → length (members_below g n) ≤ n
 length-members_below g n = length-passing (has_class g) n
-
--- one more word of a table that is written in order
-pub word_more : (f : ℕ → ℕ) (words : List ℕ) (i : ℕ) → i < length words → ((k : ℕ) → k < i → get_or words k 0 ≡ f k) → (k : ℕ) → k < i + 1 → get_or (set words i (f i)) k 0 ≡ f k
-word_more f words i in_range below = below_more _ _
-    (λ k h. let ne : k ≢ i = omega arith in rw get_or-set_other (below k h))
-    (rw get_or-set_same refl)

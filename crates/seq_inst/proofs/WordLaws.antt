@@ -1,5 +1,5 @@
 -- A stretch of classes as the bits of one word: how many classes are in it, whether one is, and which is the first.
-use Rattle.std.proofs.Common.{◌≡◌, ◌⊎◌, ◌-◌, ℕ, zero, suc, ◌+◌, ◌*◌, ◌/◌, ◌%◌, ◌^◌, ◌<◌, ◌≤◌, List, [], ◌∷◌, ◌++◌, length, get_or, refl, sym, ap, ◌∙◌, arith, inl, inr, length-append}
+use Rattle.std.proofs.Common.{◌≡◌, ◌⊎◌, ℕ, zero, suc, ◌+◌, ◌*◌, ◌/◌, ◌%◌, ◌^◌, ◌<◌, ◌≤◌, List, [], ◌∷◌, ◌++◌, length, get_or, refl, sym, ap, ◌∙◌, arith, inl, inr, length-append}
 use Rattle.std.specs.Prelude.{Bool, true, false, ◌&&◌, ◌||◌, not, filter, nat_eq, nat_lt, bit_and, bit_xor, count_ones}
 use Rattle.std.specs.List.{list_any}
 use Rattle.std.specs.Int.{bit_at}
@@ -13,7 +13,7 @@ use native.Mathlib.Nat.{pow-suc}
 use Rattle.seq_theory.specs.Problem.{count_up}
 use Rattle.seq_theory.proofs.BelowLaws.{passing-split}
 use Rattle.seq_inst.specs.declared.group.Group.{Group}
-use Rattle.seq_inst.specs.Members.{has_class, members_below, members}
+use Rattle.seq_inst.specs.Members.{has_class, members_below}
 use Rattle.seq_inst.proofs.MembersLaws.{bit-and, bit-lacks}
 
 -- the word has the k bits of the stretch from a class on, and no more
@@ -93,22 +93,6 @@ pub any-members_word : (a : Group) (g : ℕ → Bool) (i n : ℕ) → IsWordOf (
 any-members_word a g i n w =
     ap (list_any g) (members_below-word a i) ∙ list_any-append g (members_below a (64 * i)) (filter (has_class a) (count_up (64 * i) 64))
     ∙ ap (λ b. list_any g (members_below a (64 * i)) || b) (any-filter (has_class a) g (count_up (64 * i) 64) ∙ any-word (λ c. has_class a c && g c) (64 * i) 64 n w)
-
-or-true : (b : Bool) → (b || true) ≡ true
-or-true true = refl
-or-true false = refl
-
--- the search has found one, or goes on
-pub any-found : (a : Group) (g : ℕ → Bool) (i n : ℕ) → i < 8 → IsWordOf (λ c. has_class a c && g c) (64 * i) 64 n → 0 < n → list_any g (members a) ≡ true
-any-found a g i n few w some =
-    let e : 512 ≡ 64 * (i + 1) + (512 - 64 * (i + 1)) = omega arith in
-    let found : list_any g (members_below a (64 * (i + 1))) ≡ true = any-members_word a g i n w ∙ ap (λ b. list_any g (members_below a (64 * i)) || b) (lt-ltb 0 n some) ∙ or-true (list_any g (members_below a (64 * i))) in
-    ap (λ m. list_any g (members_below a m)) e ∙ ap (list_any g) (members_below-split a (64 * (i + 1)) (512 - 64 * (i + 1)))
-    ∙ list_any-append g (members_below a (64 * (i + 1))) (filter (has_class a) (count_up (64 * (i + 1)) (512 - 64 * (i + 1))))
-    ∙ ap (λ b. b || list_any g (filter (has_class a) (count_up (64 * (i + 1)) (512 - 64 * (i + 1))))) found
-
-pub any-none : (a : Group) (g : ℕ → Bool) (i n : ℕ) → IsWordOf (λ c. has_class a c && g c) (64 * i) 64 n → n ≡ 0 → list_any g (members_below a (64 * i)) ≡ false → list_any g (members_below a (64 * (i + 1))) ≡ false
-any-none a g i n w none below = any-members_word a g i n w ∙ ap (λ b. b || nat_lt 0 n) below ∙ ap (nat_lt 0) none
 
 -- the word of what two groups share, and of what the one lacks of the other
 pub word-shared : (a b : Group) (i : ℕ) → get_or a.0 i 0 < 2 ^ 64 → get_or b.0 i 0 < 2 ^ 64 → IsWordOf (λ c. has_class a c && has_class b c) (64 * i) 64 (bit_and (get_or a.0 i 0) (get_or b.0 i 0))

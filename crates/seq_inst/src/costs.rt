@@ -2,16 +2,15 @@
 //! splitting or not. It is summed test by test, the test's cost times the weight of the group that
 //! reaches it, so a class is counted once for each test that it meets.
 ghost use Rattle.std.specs.Prelude.{◌≡◌, ◌≤◌};
-ghost use Rattle.seq_theory.specs.Problem.{IsWithin};
 ghost use Rattle.seq_theory.specs.Tree.{AsksOnly, tree_cost};
-ghost use Rattle.seq_inst.specs.Instances.{problem_of};
+ghost use Rattle.seq_inst.specs.Instances.{problem_of, IsGroupOf};
 ghost use Rattle.seq_inst.specs.Members.{members};
 ghost use Rattle.seq_inst.specs.Shapes.{height};
 ghost use Rattle.seq_inst.specs.Trees.{tree_of};
 
 use crate::group::Group;
 use crate::instance::Instance;
-use crate::parts::{Answer, part};
+use crate::parts::parts_of;
 use crate::strategy::Strategy;
 use crate::weights::weight_of;
 
@@ -20,16 +19,15 @@ use crate::weights::weight_of;
 pub fn cost_of(inst: &Instance, strategy: &Strategy, group: &Group) -> u64
     requires there { AsksOnly (problem_of inst.now).tests (tree_of strategy.now) }
     requires short { height (tree_of strategy.now) ≤ 512 }
-    requires within { IsWithin (problem_of inst.now) (members group.now) }
+    requires within { IsGroupOf inst.now group.now }
     ensures { result ≡ tree_cost (problem_of inst.now) (tree_of strategy.now) (members group.now) }
 {
     match strategy {
         Strategy::Leaf => 0,
         Strategy::Ask { test, pass, fail } => {
-            let pass_part = part(inst, group, *test, Answer::Pass);
-            let fail_part = part(inst, group, *test, Answer::Fail);
+            let parts = parts_of(inst, group, *test);
             let first = u64::from(inst.costs[*test as usize]) * weight_of(inst, group);
-            first + (cost_of(inst, pass, &pass_part) + cost_of(inst, fail, &fail_part))
+            first + (cost_of(inst, pass, &parts.pass) + cost_of(inst, fail, &parts.fail))
         }
     }
 }

@@ -23,7 +23,7 @@ pub use costs::cost_of;
 pub use group::{Group, count_of};
 pub use instance::Instance;
 pub use outcome::{Outcome, Row, Verdict};
-pub use parts::{Answer, is_leaf, part, root, splits};
+pub use parts::{Answer, Parts, is_leaf, part, parts_of, root, splits};
 pub use strategy::{Strategy, ask_first};
 pub use walks::{Walk, walk_of};
 pub use weights::weight_of;

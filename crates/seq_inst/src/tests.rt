@@ -2,8 +2,8 @@
 ghost use Rattle.std.specs.Prelude.{◌≡◌, [], ◌∷◌, IfOk};
 
 use crate::{
-    Answer, Group, Instance, Strategy, ask_first, cost_of, count_of, part, root, splits, walk_of,
-    weight_of,
+    Answer, Group, Instance, Strategy, ask_first, cost_of, count_of, part, parts_of, root, splits,
+    walk_of, weight_of,
 };
 use std::alloc::{AllocError, Global};
 use std::test::Fail;
@@ -32,6 +32,9 @@ fn groups_and_parts(rt: HostRuntime) -> Result<(), Fail> {
     let failing = part(&inst, &all, 0, Answer::Fail);
     assert!(rt; failing == Group([2, 0, 0, 0, 0, 0, 0, 0]));
     assert_eq!(rt; count_of(&failing), 1);
+    let parts = parts_of(&inst, &all, 1);
+    assert!(rt; parts.pass == Group([3, 0, 0, 0, 0, 0, 0, 0]));
+    assert!(rt; parts.fail == Group([4, 0, 0, 0, 0, 0, 0, 0]));
     assert!(rt; splits(&inst, &all, 1));
     assert!(rt; !splits(&inst, &failing, 1));
     Ok(())

@@ -1,5 +1,5 @@
 -- What is proved of the report of a right outcome.
-use Rattle.std.specs.Prelude.{◌≡◌, ◌≤◌, ℕ, true, List, ◌++◌, length, Ok}
+use Rattle.std.specs.Prelude.{◌≡◌, ◌≤◌, ℕ, true, List, ◌++◌, length}
 use Rattle.std.specs.List.{All}
 use Rattle.seq_theory.specs.Problem.{Problem, IsSized, IsWeighed, AreTold}
 use Rattle.seq_theory.specs.Tree.{AsksOnly}
@@ -14,8 +14,8 @@ use Rattle.seq_cert.specs.LabelsOf.{AreLabelsOf}
 use Rattle.seq_cert.specs.LineForms.{is_label, is_mode}
 use Rattle.seq_cert.specs.ReportForm.{InRange, IsReport}
 use Rattle.seq_cert.specs.OutcomeReport.{report_from}
-use Rattle.seq_cert.specs.Printable.{IsPrintable, AreNumbers}
-use Rattle.seq_cert.specs.Reading.{report_at}
+use Rattle.seq_cert.specs.Printable.{IsPrintable, FitWords}
+use Rattle.seq_cert.specs.Places.{IsFirstBadLine}
 use Rattle.seq_cert.specs.Text.{report_bytes}
 use Rattle.seq_cert.specs.declared.report.Report.{Report}
 use Rattle.seq_check.specs.Shown.{IsCertified}
@@ -28,9 +28,9 @@ pub record ArePrintable (labels : Labels) : Type 0 where
   pub test_labels : All (λ (t : TestLabel). is_label t.label ≡ true) labels.tests
   pub states : length labels.states ≤ 4097
 
--- the report's text is read as the report, and no line of it is bad
+-- no line of the report's text is bad, in its form or in what it says
 pub record IsAccepted (p : Problem) (labels : Labels) (r : Report) : Type 0 where
-  pub read : report_at (report_bytes r) ≡ Ok r
+  pub formed : (line : ℕ) → IsFirstBadLine (report_bytes r) line → ⊥
   pub certified : IsCertified p labels r
 
 -- the checker accepts the report of a right outcome, where it has the form of a report

@@ -18,13 +18,13 @@ use Rattle.seq_core.specs.RowsOf.{row_of as row_from, rows_of as rows_from}
 use Rattle.seq_core.specs.Settled.{groups_in}
 use Rattle.seq_core.specs.Entered.{MayStop}
 use Rattle.seq_solo.proofs.RowLaws.{length-Narrows, group-Narrows, row-among, row-entered}
-use Rattle.seq_graph.specs.Known.{AreRows, no_row, row_at, group_at, Narrows, IsClosedAt}
+use Rattle.seq_graph.specs.Known.{AreSound, no_row, row_at, group_at, Narrows, IsClosedAt}
 use Rattle.seq_graph.specs.Walks.{HasMoved, IsStopped, HasTurned}
 use Rattle.seq_solo.specs.Found.{BeginsWithAll, IsSolved, IsFull, HasEnded}
 
--- a walk under way: the rows are known, the first is that of all classes, and there are no more than the limit allows
+-- a walk under way: the rows are sound, the first is that of all classes, and there are no more than the limit allows
 pub record IsWalking (p : Problem) (limit : ℕ) (rows : List Row) : Type 0 where
-  pub known : AreRows p rows
+  pub sound : AreSound p rows
   pub few : length rows ≤ limit
   pub some : 1 ≤ length rows
   pub first : members (group_at rows 0) ≡ all_classes p
@@ -34,13 +34,13 @@ pub record IsWalking (p : Problem) (limit : ℕ) (rows : List Row) : Type 0 wher
 pub root-real : (p : Problem) (g : Group) → members g ≡ all_classes p → is_end p (members g) ≡ false → IsReal p (members g)
 root-real p g e goals = record { wanted = subst (IsWanted p) (sym e) root; goals = goals }
 
-pub begun : (p : Problem) (limit : ℕ) (g : Group) (rows new : List Row) → 1 ≤ limit → members g ≡ all_classes p → rows ≡ [] → AreRows p new → Narrows (rows ++ record { group = g; low = 0; up = no_value } ∷ []) new → IsWalking p limit new
-begun p limit g rows new some e none known n =
+pub begun : (p : Problem) (limit : ℕ) (g : Group) (rows new : List Row) → 1 ≤ limit → members g ≡ all_classes p → rows ≡ [] → AreSound p new → Narrows (rows ++ record { group = g; low = 0; up = no_value } ∷ []) new → IsWalking p limit new
+begun p limit g rows new some e none sound n =
     let row : Row = record { group = g; low = 0; up = no_value } in
     let n1 : Narrows (row ∷ []) new = subst (λ l. Narrows (l ++ row ∷ []) new) none n in
     let long = length-Narrows (row ∷ []) new n1 in
     record {
-      known = known;
+      sound = sound;
       few = omega arith;
       some = omega arith;
       first = ap members (group-Narrows (row ∷ []) new 0 n1 (omega arith)) ∙ e;
@@ -48,13 +48,13 @@ begun p limit g rows new some e none known n =
 
 -- ---- going on ----
 
-pub goes-on : (p : Problem) (limit : ℕ) (old new : List Row) → IsWalking p limit old → HasMoved p limit old new → IsWalking p limit new
-goes-on p limit old new w m =
+pub goes-on : (p : Problem) (limit : ℕ) (old new : List Row) → IsWalking p limit old → AreSound p new → HasMoved p limit old new → IsWalking p limit new
+goes-on p limit old new w sound m =
     let some = w.some in
     let k = m.keeps 0 (omega arith) in
     let k0 = k.0 in
     record {
-      known = m.rows_are;
+      sound = sound;
       few = m.few;
       some = omega arith;
       first = ap members k.1 ∙ w.first;
@@ -62,11 +62,19 @@ goes-on p limit old new w m =
 
 -- ---- ending ----
 
-sound-more : (p : Problem) (limit : ℕ) (rows : List Row) → AreRows p rows → length rows ≤ limit → IsSound p limit (rows_from rows)
-sound-more p limit rows known le = let s = known.sound in let few = s.few in record { few = omega arith; distinct = s.distinct; real = s.real; lows = s.lows; ups = s.ups }
+pub sound-more : (p : Problem) (limit : ℕ) (rows : List Row) → AreSound p rows → length rows ≤ limit → IsSound p limit (rows_from rows)
+sound-more p limit rows s le = let few = s.few in record { few = omega arith; distinct = s.distinct; real = s.real; lows = s.lows; ups = s.ups }
+
+-- and under their own number
+pub sound-long : (p : Problem) (limit : ℕ) (rows : List Row) → IsSound p limit (rows_from rows) → AreSound p rows
+sound-long p limit rows s = record { few = (let l = length-from rows in omega arith); distinct = s.distinct; real = s.real; lows = s.lows; ups = s.ups }
+  where
+    length-from : (l : List Row) → length (rows_from l) ≡ length l
+    length-from [] = refl
+    length-from (r ∷ rest) = ap suc (length-from rest)
 
 pub walking-sound : (p : Problem) (limit : ℕ) (rows : List Row) → IsWalking p limit rows → IsSound p limit (rows_from rows)
-walking-sound p limit rows w = sound-more p limit rows w.known w.few
+walking-sound p limit rows w = sound-more p limit rows w.sound w.few
 
 pub walking-begins : (p : Problem) (limit : ℕ) (rows : List Row) → is_end p (all_classes p) ≡ false → IsWalking p limit rows → BeginsWithAll p rows
 walking-begins p limit rows more w = record {
@@ -75,17 +83,17 @@ walking-begins p limit rows more w = record {
   none = λ e. absurd (let bad : false ≡ true = sym more ∙ e in let b : ⊥ = cc in b);
 }
 
-closed-enough : (inst : Instance) (rows : List Row) → AreRows (problem_of inst) rows → (k : ℕ) → k < length rows → IsClosedAt rows k
+closed-enough : (inst : Instance) (rows : List Row) → AreSound (problem_of inst) rows → (k : ℕ) → k < length rows → IsClosedAt rows k
     → val (problem_of inst) (groups_of (rows_from rows)) (members (group_at rows k)) ≡ Some (low (problem_of inst) (groups_of (rows_from rows)) (members (group_at rows k)))
-closed-enough inst rows known k lt closed =
+closed-enough inst rows sound k lt closed =
     let p = problem_of inst in
     let g = members (group_at rows k) in
     let entered = groups_of (rows_from rows) in
-    let real = known.sound.real _ (row-among rows k no_row lt) in
+    let real = sound.real _ (row-among rows k no_row lt) in
     let within = wanted-within p g real.wanted in
     let value = val-entered p entered g real.goals (row-entered rows k no_row lt) in
-    let below = known.sound.lows (row_from (row_at rows k)) (row-among rows k no_row lt) in
-    let above = known.sound.ups (row_from (row_at rows k)) (row-among rows k no_row lt) _ value in
+    let below = sound.lows (row_from (row_at rows k)) (row-among rows k no_row lt) in
+    let above = sound.ups (row_from (row_at rows k)) (row-among rows k no_row lt) _ value in
     let left = low-le-least p entered g inst.stands.weighed inst.valid.told within in
     let right = least-le-val p entered g _ inst.valid.told within value in
     value ∙ ap (λ n. Some n) (omega arith)
@@ -96,7 +104,7 @@ solved inst limit rows w closed =
     let some = w.some in
     record {
       closed = λ e. closed;
-      enough = subst (λ g. val p (groups_of (rows_from rows)) g ≡ Some (low p (groups_of (rows_from rows)) g)) w.first (closed-enough inst rows w.known 0 (omega arith) closed);
+      enough = subst (λ g. val p (groups_of (rows_from rows)) g ≡ Some (low p (groups_of (rows_from rows)) g)) w.first (closed-enough inst rows w.sound 0 (omega arith) closed);
     }
 
 pub full : (p : Problem) (limit : ℕ) (old rows : List Row) (missed : Group) → (row_at old 0).low ≢ (row_at old 0).up → IsStopped p limit old rows missed → IsFull p limit rows missed

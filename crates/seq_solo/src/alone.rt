@@ -15,7 +15,6 @@ ghost use Rattle.seq_solo.specs.Found.{BeginsWithAll, HasEnded};
 use crate::found::{Found, Walked};
 use crate::turn::turn;
 use seq_graph::{Graph, enter};
-use seq_huff::Scratch;
 use seq_inst::{Instance, is_leaf, root};
 use std::alloc::{AllocError, Global};
 
@@ -31,7 +30,6 @@ pub fn walk(alloc: Global, inst: &Instance, limit: u32) -> Result<Walked, AllocE
     ensures ended { IfOk result (λ w. HasEnded (problem_of inst.now) limit w.graph.rows.items w.missed) }
     ensures stopped { IfOk result (λ w. MayStop (problem_of inst.now) limit (groups_in w.graph.rows.items) w.missed) }
 {
-    let mut scratch = Scratch::new();
     let all = root(inst);
     let mut graph = Graph::new(alloc, inst)?;
     if is_leaf(inst, &all) {
@@ -40,9 +38,9 @@ pub fn walk(alloc: Global, inst: &Instance, limit: u32) -> Result<Walked, AllocE
             missed: None,
         });
     }
-    enter(alloc, &mut scratch, inst, &mut graph, &all)?;
+    enter(alloc, inst, &mut graph, &all)?;
     'turns: while graph.rows[0].low != graph.rows[0].up {
-        if let Some(missed) = turn(alloc, &mut scratch, inst, limit, &mut graph, 0)? {
+        if let Some(missed) = turn(alloc, inst, limit, &mut graph, 0)? {
             return Ok(Walked {
                 graph,
                 missed: Some(missed),

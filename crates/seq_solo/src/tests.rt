@@ -2,7 +2,6 @@
 
 use crate::{Found, Walked, solve_alone, walk};
 use seq_graph::settle;
-use seq_huff::Scratch;
 use seq_inst::{Group, Instance, checked_holds, root};
 use std::alloc::{AllocError, Global};
 use std::test::Fail;
@@ -138,7 +137,7 @@ fn crossed_within_seven_groups(rt: HostRuntime) -> Result<(), Fail> {
     assert_eq!(rt; graph.rows.len(), 7);
     assert!(rt; graph.rows[0].low < graph.rows[0].up);
     let mut settled = graph;
-    settle(alloc, &mut Scratch::new(), &inst, &mut settled)?;
+    settle(alloc, &inst, &mut settled)?;
     assert_eq!(rt; settled.rows[0].low, settled.rows[0].up);
     Ok(())
 }

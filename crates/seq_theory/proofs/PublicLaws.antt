@@ -1,14 +1,14 @@
 -- The laws that the functions of the crate state.
-use Rattle.std.proofs.Common.{◌≡◌, ℕ, List, [], arith}
+use Rattle.std.proofs.Common.{◌≡◌, ℕ, List, arith}
 use Rattle.seq_theory.specs.Problem.{Problem, IsWithin, AreTold}
 use Rattle.seq_theory.specs.Tree.{IsLeast}
-use Rattle.seq_theory.specs.Laws.{HasLeast, BoundsHold, EnteredHolds, RunsHold, CertificateHolds, WalksHold, ViewsHold}
+use Rattle.seq_theory.specs.Laws.{HasLeast, BoundsHold, EnteredHolds, NoRowsAreSound, RunsHold, CertificateHolds, WalksHold}
 use Rattle.seq_theory.proofs.LeastLaws.{least, IsLeast-least, IsLeast-one}
 use Rattle.seq_theory.proofs.GreedyLaws.{bound-le-one_step, one_step-le-least, least-le-greedy, greedy-solves}
 use Rattle.seq_theory.proofs.LowLaws.{low-le-least}
 use Rattle.seq_theory.proofs.ValLaws.{least-le-val}
 use Rattle.seq_theory.proofs.StratLaws.{strat-holds}
-use Rattle.seq_theory.proofs.RowLaws.{most_low-le, least_up-ge, events-sound, none-sound, run-bounds}
+use Rattle.seq_theory.proofs.RowLaws.{events-sound, none-sound}
 use Rattle.seq_theory.proofs.WantedLaws.{walk-wanted}
 use Rattle.seq_theory.proofs.ClaimLaws.{claimed-le-least}
 
@@ -38,11 +38,11 @@ entered_holds p entered group n w told within l =
       costs = λ v is. (strat-holds p entered group v told within is).costs;
     }
 
+pub no_rows_are_sound : NoRowsAreSound
+no_rows_are_sound p limit = none-sound p limit
+
 pub runs_hold : RunsHold
-runs_hold p limit events sized w told allowed = record {
-  sound = events-sound p limit [] events sized told (none-sound p limit) allowed;
-  between = λ r n i l. run-bounds p limit events r n sized w told allowed i l;
-}
+runs_hold p limit rows events sized told sound allowed = events-sound p limit rows events sized told sound allowed
 
 pub certificate_holds : CertificateHolds
 certificate_holds p claims group n w told hold within l =
@@ -53,9 +53,3 @@ certificate_holds p claims group n w told hold within l =
 pub walks_hold : WalksHold
 walks_hold p l group t passed told real there s above below is =
     walk-wanted p l group t passed told real.wanted real.goals there s above (λ g within. below g (least p g) within (IsLeast-least p g told within)) is
-
-pub views_hold : ViewsHold
-views_hold p entered rows group t e i = record {
-  raised = most_low-le p entered rows t.lows group e i;
-  capped = λ v is. least_up-ge p entered rows t.ups t.inside group v e i is;
-}

@@ -7,12 +7,11 @@ use Rattle.seq_theory.specs.Problem.{Problem, IsWithin, IsWeighed, IsSized, AreT
 use Rattle.seq_theory.specs.Bound.{step_sum}
 use Rattle.seq_theory.specs.Greedy.{greedy_cost}
 use Rattle.seq_theory.specs.Graph.{same_group, is_entered, low, val, step_value, sum_with, part, IsWanted, root, part_of, IsReal}
-use Rattle.seq_theory.specs.Rows.{Row, no_value, groups_of, IsRow, AreDistinct, IsSound, row_of, known_low, up_or, known_up, most_low, least_up, Event, enter, raise, cap, IsAllowed, AreAllowed, change_at, after, after_all}
+use Rattle.seq_theory.specs.Rows.{Row, no_value, groups_of, IsRow, AreDistinct, IsSound, row_for, known_low, up_or, known_up, most_low, least_up, Event, enter, raise, cap, IsAllowed, AreAllowed, change_at, after, after_all}
 use Rattle.std.proofs.Math.Nat.{mul-le-mul_left, mul-le-mul_right}
 use Rattle.seq_theory.proofs.GroupLaws.{filter-IsIn, length-two_filters, weight_of-parts}
 use Rattle.seq_theory.proofs.GreedyLaws.{greedy-cheap}
-use Rattle.seq_theory.specs.Tree.{IsLeast}
-use Rattle.seq_theory.proofs.LeastLaws.{least, count_up-IsIn, IsLeast-least, IsLeast-one}
+use Rattle.seq_theory.proofs.LeastLaws.{least, count_up-IsIn}
 use Rattle.seq_theory.proofs.PartsRecursion.{least_of-mono}
 use Rattle.seq_theory.proofs.LowLaws.{low-entered, bound-le-low, low-le-least, low-grows}
 use Rattle.seq_theory.proofs.ValLaws.{least_of-values-le, least_of-first, values-at_least, sum_with-parts, val-end, val-entered, IsBelow, val-falls, least-le-val, some-one}
@@ -53,11 +52,11 @@ record RowOf (rows : List Row) (group : List ℕ) (r : Row) : Type 0 where
   pub among : IsRow r rows
   pub same : group ≡ r.group
 
-row_of-found : (rows : List Row) (group : List ℕ) (r : Row) → row_of rows group ≡ Some r → RowOf rows group r
+row_of-found : (rows : List Row) (group : List ℕ) (r : Row) → row_for rows group ≡ Some r → RowOf rows group r
 row_of-found [] group r e = absurd (let h : ⊥ = cc in h)
 row_of-found (s ∷ rest) group r e = go (same_group group s.group) refl e (row_of-found rest group r)
   where
-    go : (b : Bool) → same_group group s.group ≡ b → cond b (Some s) (row_of rest group) ≡ Some r → (row_of rest group ≡ Some r → RowOf rest group r) → RowOf (s ∷ rest) group r
+    go : (b : Bool) → same_group group s.group ≡ b → cond b (Some s) (row_for rest group) ≡ Some r → (row_for rest group ≡ Some r → RowOf rest group r) → RowOf (s ∷ rest) group r
     go true y e later = let is : s ≡ r = cc in record { among = inl is; same = same_group-true group s.group y ∙ ap (λ x. x.group) is }
     go false n e later = let f = later e in record { among = inr f.among; same = f.same }
 
@@ -81,7 +80,7 @@ module _ (p : Problem) where
   known_low-le : (entered : List (List ℕ)) (rows : List Row) → ((r : Row) → IsRow r rows → r.low ≤ low p (entered) r.group) → (group : List ℕ) → known_low p rows group ≤ low p (entered) group
   known_low-le entered rows lows group = elim (cases_Bool (is_end p group)) [
     | inl e ↦ rw e (omega arith)
-    | inr e ↦ rw e (elim (cases_row (row_of rows group)) [
+    | inr e ↦ rw e (elim (cases_row (row_for rows group)) [
       | inl n ↦ rw n (bound-le-low p (entered) group)
       | inr found ↦ rw (found.1)
           (let f = row_of-found rows group found.0 found.1 in
@@ -109,10 +108,10 @@ module _ (p : Problem) where
   known_up-ge : (entered : List (List ℕ)) (rows : List Row) → Ups entered rows → ((r : Row) → IsRow r rows → is_entered entered r.group ≡ true) → (group : List ℕ) (u : ℕ) → known_up p rows group ≡ Some u → IsBelow p (val p (entered) group) u
   known_up-ge entered rows ups inside group u e = elim (cases_Bool (is_end p group)) [
     | inl y ↦ record { value = 0; is = val-end p (entered) group y; le = omega arith }
-    | inr n ↦ elim (cases_row (row_of rows group)) [
+    | inr n ↦ elim (cases_row (row_for rows group)) [
       | inl none ↦ absurd (no-value u (sym (ap up_or none) ∙ rw n at e))
       | inr found ↦
-          (let h : up_or (row_of rows group) ≡ Some u = rw n at e in
+          (let h : up_or (row_for rows group) ≡ Some u = rw n at e in
           let h2 : up_or (Some found.0) ≡ Some u = sym (ap up_or found.1) ∙ h in
           let f = row_of-found rows group found.0 found.1 in
           let i = subst (λ g. is_entered (entered) g ≡ true) (sym f.same) (inside found.0 f.among) in
@@ -373,14 +372,4 @@ module _ (p : Problem) (limit : ℕ) where
       let b = low-le-least p (groups_of rows) r.group w told within in
       let c = least-le-val p (groups_of rows) r.group value told within is in
       let d = s.ups r i value is in
-      (omega arith, omega arith)
-
-  pub run-bounds : (events : List Event) (r : Row) (n : ℕ) → IsSized p → IsWeighed p → AreTold p → AreAllowed p limit [] events → IsRow r (after_all [] events) → IsLeast p r.group n → (r.low ≤ n) × (n ≤ r.up)
-  run-bounds events r n sized w told a i l =
-      let s = events-sound [] events sized told none-sound a in
-      let b = sound-bounds (after_all [] events) r w told s i in
-      let real = s.real r i in
-      let e = IsLeast-one p r.group (least p r.group) n (IsLeast-least p r.group told (wanted-within p r.group real.wanted)) l in
-      let b0 = b.0 in
-      let b1 = b.1 in
       (omega arith, omega arith)

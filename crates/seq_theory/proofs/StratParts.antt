@@ -2,10 +2,10 @@
 -- value is there, splits the group, and both parts have values. So the strategy is its step from those of the parts, and
 -- asks only tests that split what reaches them.
 use Rattle.std.proofs.Common.{◌≡◌, ◌≢◌, ℕ, zero, suc, ◌*◌, ◌<◌, ◌≤◌, List, length, refl, sym, ap, ◌∙◌, arith, inl, inr, subst, Option, Some, None}
-use Rattle.std.specs.Prelude.{Bool, true, false, IsSome}
+use Rattle.std.specs.Prelude.{true, false, IsSome}
 use Rattle.std.proofs.lemmas.Bool.{cases_Bool, true≢false, false≢true, eqb-true, eq-eqb}
 use Rattle.seq_theory.specs.Problem.{Problem, IsIn, IsWithin, AreTold, fails, pass_part, fail_part, splits, splitting, weight_of, is_end}
-use Rattle.seq_theory.specs.Tree.{Tree, leaf, ask}
+use Rattle.seq_theory.specs.Tree.{leaf, ask}
 use Rattle.seq_theory.specs.Greedy.{greedy, greedy_cost}
 use Rattle.seq_theory.specs.Graph.{is_entered, step_value, val, is_value, first_where, value_test, strat}
 use Rattle.seq_theory.specs.Shapes.{AsksSplitting}

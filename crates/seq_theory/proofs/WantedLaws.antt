@@ -1,12 +1,4 @@
 -- Which parts of a wanted group are wanted.
-use Rattle.std.proofs.Common.{Some, ap, ◌∙◌, ◌*◌}
-use Rattle.seq_theory.specs.Problem.{weight_of, count_up}
-use Rattle.seq_theory.specs.Greedy.{greedy_cost}
-use Rattle.seq_theory.specs.Graph.{step_value, sum_with}
-use Rattle.seq_theory.specs.Rows.{Row, known_low, known_up, most_low, least_up}
-use Rattle.seq_theory.proofs.GroupLaws.{IsIn-filter}
-use Rattle.seq_theory.proofs.LeastLaws.{IsIn-count_up}
-use Rattle.seq_theory.proofs.ValLaws.{least_of-values-le}
 use Rattle.std.proofs.Common.{◌≡◌, ℕ, ◌<◌, ◌≤◌, List, arith}
 use Rattle.std.specs.Prelude.{Bool, true, false, map}
 use Rattle.seq_theory.specs.Problem.{Problem, IsWithin, IsWeighed, AreTold, pass_part, fail_part, splits, splitting, is_end, least_of}
@@ -35,12 +27,3 @@ module _ (p : Problem) where
       let f2 = above (fail_part p t group) in
       let f3 = least_of-steps-le p l group told (wanted-within p group wanted) e (λ part lt wp. below part wp) in
       wanted-part group t passed told wanted e there s (omega arith)
-
--- where the test of least sum has closed parts, its sum may be both raised to and capped to
-pub closing : (p : Problem) (rows : List Row) (group : List ℕ) (t : ℕ) → t < p.tests → splits p group t ≡ true → known_up p rows (pass_part p t group) ≡ Some (known_low p rows (pass_part p t group)) → known_up p rows (fail_part p t group) ≡ Some (known_low p rows (fail_part p t group)) → step_sum p (known_low p rows) group t ≡ least_of (map (step_sum p (known_low p rows) group) (splitting p group)) → (step_sum p (known_low p rows) group t ≤ most_low p rows group) × (least_up p rows group ≤ step_sum p (known_low p rows) group t)
-closing p rows group t there s cp cf is =
-    let value : step_value p (known_up p rows) group t ≡ Some (step_sum p (known_low p rows) group t) =
-    ap (λ a. sum_with (p.cost t * weight_of p group) a (known_up p rows (fail_part p t group))) cp
-    ∙ ap (λ b. sum_with (p.cost t * weight_of p group) (Some (known_low p rows (pass_part p t group))) b) cf in
-    let f = least_of-values-le (greedy_cost p group) (step_value p (known_up p rows) group) t (step_sum p (known_low p rows) group t) (splitting p group) (IsIn-filter (splits p group) t (count_up 0 p.tests) (IsIn-count_up t 0 p.tests (omega arith) (omega arith)) s) value in
-    (omega arith, f)

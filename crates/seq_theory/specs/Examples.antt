@@ -5,8 +5,8 @@ use Rattle.std.proofs.Common.{get_or}
 use Rattle.seq_theory.specs.Problem.{Problem}
 
 -- a problem by lists: the classes' weights, the tests' costs, the classes that fail each test, and the classes' goals
-abbrev pub problem_from : List ℕ → List ℕ → List (List ℕ) → List ℕ → Problem
-problem_from weights costs failing goals = record {
+abbrev pub problem_of_lists : List ℕ → List ℕ → List (List ℕ) → List ℕ → Problem
+problem_of_lists weights costs failing goals = record {
   classes = length weights;
   tests = length costs;
   weight = λ c. slice_index weights c;
@@ -17,21 +17,21 @@ problem_from weights costs failing goals = record {
 
 -- two faults, each seen by a test of its own
 abbrev pub two_faults : Problem
-two_faults = problem_from (6 ∷ 3 ∷ 1 ∷ []) (2 ∷ 1 ∷ []) ((1 ∷ []) ∷ (2 ∷ []) ∷ []) (0 ∷ 1 ∷ 2 ∷ [])
+two_faults = problem_of_lists (6 ∷ 3 ∷ 1 ∷ []) (2 ∷ 1 ∷ []) ((1 ∷ []) ∷ (2 ∷ []) ∷ []) (0 ∷ 1 ∷ 2 ∷ [])
 
 -- a chain of three: each test sees the faults before it
 abbrev pub chain : ℕ → ℕ → ℕ → Problem
-chain good weight cost = problem_from (good ∷ weight ∷ weight ∷ weight ∷ []) (cost ∷ cost ∷ cost ∷ [])
+chain good weight cost = problem_of_lists (good ∷ weight ∷ weight ∷ weight ∷ []) (cost ∷ cost ∷ cost ∷ [])
     ((1 ∷ []) ∷ (1 ∷ 2 ∷ []) ∷ (1 ∷ 2 ∷ 3 ∷ []) ∷ []) (0 ∷ 1 ∷ 2 ∷ 3 ∷ [])
 
 -- four faults, each seen by a test of its own
 abbrev pub star : Problem
-star = problem_from (1 ∷ 1 ∷ 1 ∷ 1 ∷ 1 ∷ []) (1 ∷ 1 ∷ 1 ∷ 1 ∷ []) ((1 ∷ []) ∷ (2 ∷ []) ∷ (3 ∷ []) ∷ (4 ∷ []) ∷ []) (0 ∷ 1 ∷ 2 ∷ 3 ∷ 4 ∷ [])
+star = problem_of_lists (1 ∷ 1 ∷ 1 ∷ 1 ∷ 1 ∷ []) (1 ∷ 1 ∷ 1 ∷ 1 ∷ []) ((1 ∷ []) ∷ (2 ∷ []) ∷ (3 ∷ []) ∷ (4 ∷ []) ∷ []) (0 ∷ 1 ∷ 2 ∷ 3 ∷ 4 ∷ [])
 
 -- four faults and no state without a fault; the first two are one goal
 abbrev pub units : Problem
-units = problem_from (1 ∷ 1 ∷ 1 ∷ 1 ∷ []) (1 ∷ 1 ∷ 1 ∷ 1 ∷ []) ((0 ∷ []) ∷ (1 ∷ []) ∷ (2 ∷ []) ∷ (3 ∷ []) ∷ []) (0 ∷ 0 ∷ 2 ∷ 3 ∷ [])
+units = problem_of_lists (1 ∷ 1 ∷ 1 ∷ 1 ∷ []) (1 ∷ 1 ∷ 1 ∷ 1 ∷ []) ((0 ∷ []) ∷ (1 ∷ []) ∷ (2 ∷ []) ∷ (3 ∷ []) ∷ []) (0 ∷ 0 ∷ 2 ∷ 3 ∷ [])
 
 -- the same with a state without a fault
 abbrev pub units_good : Problem
-units_good = problem_from (1 ∷ 1 ∷ 1 ∷ 1 ∷ 1 ∷ []) (1 ∷ 1 ∷ 1 ∷ 1 ∷ []) ((1 ∷ []) ∷ (2 ∷ []) ∷ (3 ∷ []) ∷ (4 ∷ []) ∷ []) (0 ∷ 1 ∷ 1 ∷ 3 ∷ 4 ∷ [])
+units_good = problem_of_lists (1 ∷ 1 ∷ 1 ∷ 1 ∷ 1 ∷ []) (1 ∷ 1 ∷ 1 ∷ 1 ∷ []) ((1 ∷ []) ∷ (2 ∷ []) ∷ (3 ∷ []) ∷ (4 ∷ []) ∷ []) (0 ∷ 1 ∷ 1 ∷ 3 ∷ 4 ∷ [])

@@ -1,11 +1,11 @@
 -- What is proved of least costs, bounds, strategies, rows and certificates.
 use Rattle.std.specs.Prelude.{◌≡◌, ℕ, ◌<◌, ◌≤◌, Bool, true, false, List, [], Some, map}
-use Rattle.seq_theory.specs.Problem.{Problem, IsWithin, IsWeighed, IsSized, AreTold, splits, splitting, least_of, is_end, pass_part, fail_part}
+use Rattle.seq_theory.specs.Problem.{Problem, IsWithin, IsWeighed, IsSized, AreTold, splits, splitting, least_of, is_end}
 use Rattle.seq_theory.specs.Tree.{tree_cost, Solves, IsLeast}
 use Rattle.seq_theory.specs.Bound.{bound, step_sum}
 use Rattle.seq_theory.specs.Greedy.{greedy, greedy_cost, one_step}
 use Rattle.seq_theory.specs.Graph.{is_entered, low, val, strat, part, IsWanted, IsReal}
-use Rattle.seq_theory.specs.Rows.{Row, IsRow, IsSound, Event, AreAllowed, after_all, known_low, known_up, most_low, least_up}
+use Rattle.seq_theory.specs.Rows.{Row, IsSound, Event, AreAllowed, after_all}
 use Rattle.seq_theory.specs.Claims.{Claim, ClaimsHold, claimed, low_claims}
 
 -- each group of a problem whose classes are told apart has a least cost
@@ -33,28 +33,13 @@ pub record EnteredStands (p : Problem) (entered : List (List ℕ)) (group : List
 abbrev pub EnteredHolds : Type 0
 EnteredHolds = (p : Problem) (entered : List (List ℕ)) (group : List ℕ) (n : ℕ) → IsWeighed p → AreTold p → IsWithin p group → IsLeast p group n → EnteredStands p entered group n
 
--- whatever allowed events were played, the rows are sound, and the least cost of each row's group lies between its low
--- and its up
-pub record RowsStand (p : Problem) (limit : ℕ) (rows : List Row) : Type 0 where
-  pub sound : IsSound p limit rows
-  pub between : (r : Row) (n : ℕ) → IsRow r rows → IsLeast p r.group n → (r.low ≤ n) × (n ≤ r.up)
+-- before the first event there are no rows, and these are sound
+abbrev pub NoRowsAreSound : Type 0
+NoRowsAreSound = (p : Problem) (limit : ℕ) → IsSound p limit []
 
+-- whatever allowed events are played, sound rows stay sound
 abbrev pub RunsHold : Type 0
-RunsHold = (p : Problem) (limit : ℕ) (events : List Event) → IsSized p → IsWeighed p → AreTold p → AreAllowed p limit [] events → RowsStand p limit (after_all [] events)
-
--- what is known of some of the entered groups: the lows and ups of the rows are true of all the entered groups
-pub record IsTrueOf (p : Problem) (entered : List (List ℕ)) (rows : List Row) : Type 0 where
-  pub inside : (r : Row) → IsRow r rows → is_entered entered r.group ≡ true
-  pub lows : (r : Row) → IsRow r rows → r.low ≤ low p entered r.group
-  pub ups : (r : Row) → IsRow r rows → (v : ℕ) → val p entered r.group ≡ Some v → v ≤ r.up
-
--- what such rows allow is true of all the entered groups too, though the rows are only some of them
-pub record ViewStands (p : Problem) (entered : List (List ℕ)) (rows : List Row) (group : List ℕ) : Type 0 where
-  pub raised : most_low p rows group ≤ low p entered group
-  pub capped : (v : ℕ) → val p entered group ≡ Some v → v ≤ least_up p rows group
-
-abbrev pub ViewsHold : Type 0
-ViewsHold = (p : Problem) (entered : List (List ℕ)) (rows : List Row) (group : List ℕ) → IsTrueOf p entered rows → is_end p group ≡ false → is_entered entered group ≡ true → ViewStands p entered rows group
+RunsHold = (p : Problem) (limit : ℕ) (rows : List Row) (events : List Event) → IsSized p → AreTold p → IsSound p limit rows → AreAllowed p limit rows events → IsSound p limit (after_all rows events)
 
 -- where a certificate's claims hold against each other, what each group counts is at most its least cost
 abbrev pub CertificateHolds : Type 0
@@ -70,11 +55,3 @@ abbrev pub WalksHold : Type 0
 WalksHold = (p : Problem) (l : List ℕ → ℕ) (group : List ℕ) (t : ℕ) (passed : Bool) → AreTold p → IsReal p group → t < p.tests → splits p group t ≡ true
     → ((g : List ℕ) → bound p g ≤ l g) → ((g : List ℕ) (n : ℕ) → IsWithin p g → IsLeast p g n → l g ≤ n)
     → step_sum p l group t ≡ least_of (map (step_sum p l group) (splitting p group)) → IsWanted p (part p t passed group)
-
--- where the test of least sum has closed parts, its sum may be both raised to and capped to
-abbrev pub ClosesHold : Type 0
-ClosesHold = (p : Problem) (rows : List Row) (group : List ℕ) (t : ℕ) → t < p.tests → splits p group t ≡ true
-    → known_up p rows (pass_part p t group) ≡ Some (known_low p rows (pass_part p t group))
-    → known_up p rows (fail_part p t group) ≡ Some (known_low p rows (fail_part p t group))
-    → step_sum p (known_low p rows) group t ≡ least_of (map (step_sum p (known_low p rows) group) (splitting p group))
-    → (step_sum p (known_low p rows) group t ≤ most_low p rows group) × (least_up p rows group ≤ step_sum p (known_low p rows) group t)

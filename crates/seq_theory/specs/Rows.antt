@@ -39,9 +39,9 @@ pub record IsSound (p : Problem) (limit : ℕ) (rows : List Row) : Type 0 where
   pub ups : (r : Row) → IsRow r rows → (v : ℕ) → val p (groups_of rows) r.group ≡ Some v → v ≤ r.up
 
 -- the row of a group
-abbrev pub row_of : List Row → List ℕ → Option Row
-row_of [] group = None
-row_of (r ∷ rest) group = cond (same_group group r.group) (Some r) (row_of rest group)
+abbrev pub row_for : List Row → List ℕ → Option Row
+row_for [] group = None
+row_for (r ∷ rest) group = cond (same_group group r.group) (Some r) (row_for rest group)
 
 abbrev pub low_or : ℕ → Option Row → ℕ
 low_or bound None = bound
@@ -50,7 +50,7 @@ low_or bound (Some r) = max r.low bound
 -- what a part counts for a low: 0 for one goal, the larger of its row's low and its bound, and the bound of a group
 -- without a row
 abbrev pub known_low : Problem → List Row → List ℕ → ℕ
-known_low p rows group = cond (is_end p group) 0 (low_or (bound p group) (row_of rows group))
+known_low p rows group = cond (is_end p group) 0 (low_or (bound p group) (row_for rows group))
 
 abbrev pub up_or : Option Row → Option ℕ
 up_or None = None
@@ -58,7 +58,7 @@ up_or (Some r) = cond (nat_eq r.up no_value) None (Some r.up)
 
 -- what a part counts for an up: 0 for one goal, and the up of a row that has one
 abbrev pub known_up : Problem → List Row → List ℕ → Option ℕ
-known_up p rows group = cond (is_end p group) (Some 0) (up_or (row_of rows group))
+known_up p rows group = cond (is_end p group) (Some 0) (up_or (row_for rows group))
 
 -- the most to which a group may be raised, and the least to which it may be capped
 abbrev pub most_low : Problem → List Row → List ℕ → ℕ

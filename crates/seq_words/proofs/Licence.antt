@@ -8,7 +8,7 @@ use Rattle.seq_theory.specs.Problem.{Problem, pass_part, fail_part, splitting, w
 use Rattle.seq_theory.specs.Bound.{step_sum}
 use Rattle.seq_theory.specs.Greedy.{greedy_cost}
 use Rattle.seq_theory.specs.Graph.{same_group, is_entered, step_value, sum_with}
-use Rattle.seq_theory.specs.Rows.{Row, no_value, groups_of, IsRow, AreDistinct, row_of, up_or, known_low, known_up, most_low, least_up}
+use Rattle.seq_theory.specs.Rows.{Row, no_value, groups_of, IsRow, AreDistinct, row_for, up_or, known_low, known_up, most_low, least_up}
 use Rattle.seq_theory.proofs.PartsRecursion.{least_of-mono}
 use Rattle.seq_theory.proofs.ValLaws.{least_of-values-le, least_of-first, values-at_least, sum_with-parts}
 use Rattle.seq_theory.proofs.RowLaws.{same_group-true, same_group-refl, or-left, or-right}
@@ -30,11 +30,11 @@ record Found (rows : List Row) (group : List ℕ) (r : Row) : Type 0 where
   among : IsRow r rows
   same : group ≡ r.group
 
-found-row : (rows : List Row) (group : List ℕ) (r : Row) → row_of rows group ≡ Some r → Found rows group r
+found-row : (rows : List Row) (group : List ℕ) (r : Row) → row_for rows group ≡ Some r → Found rows group r
 found-row [] group r e = absurd (let h : ⊥ = cc in h)
 found-row (s ∷ rest) group r e = go (same_group group s.group) refl e (found-row rest group r)
   where
-    go : (b : Bool) → same_group group s.group ≡ b → cond b (Some s) (row_of rest group) ≡ Some r → (row_of rest group ≡ Some r → Found rest group r) → Found (s ∷ rest) group r
+    go : (b : Bool) → same_group group s.group ≡ b → cond b (Some s) (row_for rest group) ≡ Some r → (row_for rest group ≡ Some r → Found rest group r) → Found (s ∷ rest) group r
     go true y e later = let is : s ≡ r = cc in record { among = inl is; same = same_group-true group s.group y ∙ ap (λ x. x.group) is }
     go false n e later = let f = later e in record { among = inr f.among; same = f.same }
 
@@ -48,12 +48,12 @@ among-entered r (s ∷ rest) (inl e) = or-left _ _ (subst (λ g. same_group r.gr
 among-entered r (s ∷ rest) (inr i) = or-right (same_group r.group s.group) _ (among-entered r rest i)
 
 -- where no group stands twice, a row is the one of its group
-row-of_group : (rows : List Row) (r : Row) → AreDistinct (groups_of rows) → IsRow r rows → row_of rows r.group ≡ Some r
+row-of_group : (rows : List Row) (r : Row) → AreDistinct (groups_of rows) → IsRow r rows → row_for rows r.group ≡ Some r
 row-of_group [] r d i = absurd i
-row-of_group (s ∷ rest) r d (inl e) = subst (λ (x : Row). row_of (x ∷ rest) r.group ≡ Some r) (sym e) (rw (same_group-refl r.group) refl)
+row-of_group (s ∷ rest) r d (inl e) = subst (λ (x : Row). row_for (x ∷ rest) r.group ≡ Some r) (sym e) (rw (same_group-refl r.group) refl)
 row-of_group (s ∷ rest) r d (inr i) = go (same_group r.group s.group) refl (row-of_group rest r d.1 i)
   where
-    go : (b : Bool) → same_group r.group s.group ≡ b → row_of rest r.group ≡ Some r → cond b (Some s) (row_of rest r.group) ≡ Some r
+    go : (b : Bool) → same_group r.group s.group ≡ b → row_for rest r.group ≡ Some r → cond b (Some s) (row_for rest r.group) ≡ Some r
     go true y later = absurd (true≢false (sym (among-entered r rest i) ∙ ap (is_entered (groups_of rest)) (same_group-true r.group s.group y) ∙ d.0))
     go false n later = later
 
@@ -98,12 +98,12 @@ module _ (p : Problem) (known rows : List Row) (distinct : AreDistinct (groups_o
   known_low-grows : (group : List ℕ) → known_low p known group ≤ known_low p rows group
   known_low-grows group = elim (cases_Bool (is_end p group)) [
     | inl e ↦ rw e (omega arith)
-    | inr e ↦ rw e (elim (cases_row (row_of known group)) [
-      | inl n ↦ rw n (elim (cases_row (row_of rows group)) [ inl m ↦ rw m (omega arith) | inr other ↦ rw (other.1) (omega arith) ])
+    | inr e ↦ rw e (elim (cases_row (row_for known group)) [
+      | inl n ↦ rw n (elim (cases_row (row_for rows group)) [ inl m ↦ rw m (omega arith) | inr other ↦ rw (other.1) (omega arith) ])
       | inr found ↦ rw (found.1)
           (let f = found-row known group found.0 found.1 in
           let b = bettered found.0 f.among in
-          let is : row_of rows group ≡ Some b.by = subst (λ g. row_of rows g ≡ Some b.by) (b.group ∙ sym f.same) (row-of_group rows b.by distinct b.among) in
+          let is : row_for rows group ≡ Some b.by = subst (λ g. row_for rows g ≡ Some b.by) (b.group ∙ sym f.same) (row-of_group rows b.by distinct b.among) in
           let l = b.low in
           rw is (omega arith))
     ])
@@ -121,14 +121,14 @@ module _ (p : Problem) (known rows : List Row) (distinct : AreDistinct (groups_o
   known_up-falls : (group : List ℕ) (u : ℕ) → known_up p known group ≡ Some u → IsNoMore (known_up p rows group) u
   known_up-falls group u e = elim (cases_Bool (is_end p group)) [
     | inl y ↦ record { value = 0; is = rw y refl; le = omega arith }
-    | inr n ↦ elim (cases_row (row_of known group)) [
+    | inr n ↦ elim (cases_row (row_for known group)) [
       | inl none ↦ absurd (no-row u (sym (ap up_or none) ∙ rw n at e))
       | inr found ↦
-          (let h : up_or (row_of known group) ≡ Some u = rw n at e in
+          (let h : up_or (row_for known group) ≡ Some u = rw n at e in
           let h2 : up_or (Some found.0) ≡ Some u = sym (ap up_or found.1) ∙ h in
           let f = found-row known group found.0 found.1 in
           let b = bettered found.0 f.among in
-          let is : row_of rows group ≡ Some b.by = subst (λ g. row_of rows g ≡ Some b.by) (b.group ∙ sym f.same) (row-of_group rows b.by distinct b.among) in
+          let is : row_for rows group ≡ Some b.by = subst (λ g. row_for rows g ≡ Some b.by) (b.group ∙ sym f.same) (row-of_group rows b.by distinct b.among) in
           let below = b.up in
           let most = b.most in
           let up = bound-is (found.0).up u h2 in

@@ -1,5 +1,6 @@
 pub mod Causes
 pub mod Shelf
 pub mod Sink
+pub mod Files
 pub mod MemShelf
 pub mod MemSink

@@ -1,14 +1,8 @@
 -- What a shelf in memory holds, and what its calls change.
-use Rattle.std.specs.Prelude.{◌≡◌, ◌≢◌, ℕ, List, [], ◌∷◌, Option, Some, None, Contains, length, drop, min, string_bytes, if◌then◌else◌}
-use Rattle.std.specs.Str.{bytes_eq}
+use Rattle.std.specs.Prelude.{◌≡◌, ◌≢◌, ◌-◌, ◌^◌, ℕ, List, Option, Some, None, Contains, length, drop, min}
 use Rattle.sig_edge.specs.Causes.{one_more}
-use Rattle.sig_edge.specs.declared.memory_shelf.File.{File}
+use Rattle.sig_edge.specs.Files.{found}
 use Rattle.sig_edge.specs.declared.memory_shelf.MemShelf.{MemShelf}
-
--- the bytes of the first file with the name
-abbrev pub found : List File → List ℕ → Option (List ℕ)
-found [] name = None
-found (f ∷ files) name = if bytes_eq (string_bytes f.name) name then Some f.bytes.items else found files name
 
 -- the bytes that are held under a name, of a shelf in memory
 abbrev pub content_of : MemShelf → List ℕ → Option (List ℕ)
@@ -30,21 +24,26 @@ shelf_calls shelf = shelf.calls
 abbrev pub shelf_failing : MemShelf → List ℕ
 shelf_failing shelf = shelf.fail.items
 
+-- how many bytes it gives at a call, at the most
+abbrev pub most_given : MemShelf → ℕ
+most_given shelf = shelf.most
+
 -- the number of its next call is among those that are to fail
 abbrev pub FailsNext : MemShelf → Type 0
 FailsNext shelf = Contains (shelf_failing shelf) (one_more (shelf_calls shelf))
 
--- a read from `at` on gives as many bytes as the file still has and the buffer takes
-abbrev pub FillsFrom : Option (List ℕ) → ℕ → List ℕ → ℕ → Type 0
-FillsFrom None at into n = ⊥
-FillsFrom (Some bytes) at into n = n ≡ min (length into) (length (drop at bytes))
+-- a read from `at` on gives as many bytes as the file still has and the buffer takes, and never more than `most`
+abbrev pub FillsFrom : Option (List ℕ) → ℕ → ℕ → List ℕ → ℕ → Type 0
+FillsFrom None most at into n = ⊥
+FillsFrom (Some bytes) most at into n = n ≡ min most (min (length into) (length (drop at bytes)))
 
--- the shelf holds nothing, was never read, and is to fail at these calls
+-- the shelf holds nothing, was never read, gives at a call as much as any buffer takes, and is to fail at these calls
 pub record IsNewShelf (shelf : MemShelf) (fail : List ℕ) : Type 0 where
   pub holds : (name : List ℕ) → content_of shelf name ≡ None
   pub faults : shelf_faults shelf ≡ 0
   pub misses : shelf_misses shelf ≡ 0
   pub calls : shelf_calls shelf ≡ 0
+  pub most : most_given shelf ≡ 2 ^ 64 - 1
   pub failing : shelf_failing shelf ≡ fail
 
 -- the counts and the calls that are to fail are as before
@@ -58,6 +57,12 @@ pub record KeepsCounts (old new : MemShelf) : Type 0 where
 pub record AddsFile (old new : MemShelf) (name bytes : List ℕ) : Type 0 where
   pub added : content_of new name ≡ Some bytes
   pub others : (other : List ℕ) → other ≢ name → content_of new other ≡ content_of old other
+
+-- it gives at most so many bytes at a call, and is else as before
+pub record GivesPieces (old new : MemShelf) (limit : ℕ) : Type 0 where
+  pub most : most_given new ≡ limit
+  pub holds : (name : List ℕ) → content_of new name ≡ content_of old name
+  pub counts : KeepsCounts old new
 
 -- a call was counted, and nothing else has changed
 abbrev pub read_once : MemShelf → MemShelf

@@ -1,11 +1,9 @@
 -- The numbers of a model without breach: the blocks of its uses, and the places of its links' ends.
 use Rattle.std.proofs.Common.{◌≡◌, ℕ, zero, suc, ◌+◌, ◌<◌, ◌≤◌, List, [], ◌∷◌, ◌++◌, length, take, get_or, refl, sym, ap, ◌∙◌, arith, subst, inl, inr, length-append}
-use Rattle.std.specs.Prelude.{cond, not, map, slice_get, slice_index, slice_index_or, Option, Some, None}
-use Rattle.std.specs.List.{AllZip, Contains, position_or_len}
-use Rattle.std.specs.Str.{bytes_eq}
+use Rattle.std.specs.Prelude.{map, slice_get, slice_index, slice_index_or, Option, Some, None}
+use Rattle.std.specs.List.{AllZip, Contains}
 use Rattle.std.proofs.lemmas.List.{length-map}
-use Rattle.std.proofs.lemmas.List.Folds.{prefix_len-append}
-use Rattle.std.proofs.lemmas.Bool.{ne_eqb, cases_lt}
+use Rattle.std.proofs.lemmas.Bool.{cases_lt}
 use Rattle.std.proofs.lemmas.Option.{slice_get-get_or}
 use Rattle.sig_types.specs.declared.model.Model.{Model}
 use Rattle.sig_types.specs.declared.model.Block.{Block}
@@ -20,7 +18,7 @@ use Rattle.sig_flat.specs.Places.{own_names, IsEndPlace}
 use Rattle.sig_flat.specs.Words.{place_among}
 use Rattle.sig_flat.specs.Layouts.{number_of, numbers_of_block, inners_from, no_inner}
 use Rattle.sig_flat.specs.Known.{use_names, EndIsKnown, IsKnown}
-use Rattle.sig_flat.proofs.NameLaws.{place-found, named-at, use-named-at}
+use Rattle.sig_flat.proofs.NameLaws.{place-found, place-left, named-at, use-named-at}
 use Rattle.sig_flat.proofs.PlaceLaws.{get-map}
 
 pub at-map : {X Y : Type 0} (f : X → Y) (xs : List X) (k : ℕ) (d : X) (e : Y) → k < length xs → get_or (map f xs) k e ≡ f (get_or xs k d)
@@ -43,12 +41,6 @@ from-map f (x ∷ xs) y (zero, lt, e) = (x, (0, omega arith, refl), e)
 from-map f (x ∷ xs) y (suc k, lt, e) =
     let h = from-map f xs y (k, omega arith, e) in
     (h.0, (suc h.1.0, (let l = h.1.1 in omega arith), h.1.2), h.2)
-
--- a name that stands in the front of a list has its place there
-place-left : (xs ys : List (List ℕ)) (name : List ℕ) → place_among xs name < length xs → place_among (xs ++ ys) name ≡ place_among xs name
-place-left xs ys name lt =
-    prefix_len-append (λ n. not (bytes_eq name n)) xs ys
-    ∙ ap (λ b. cond b (length xs + position_or_len (bytes_eq name) ys) (position_or_len (bytes_eq name) xs)) (ne_eqb (position_or_len (bytes_eq name) xs) (length xs) (λ e. omega arith))
 
 -- the uses of a block, one after another
 pub inner-at : (sizes : List ℕ) (size_of : ℕ → ℕ) (t t' : ℕ) (us : List Used) (js : List ℕ) (nth : ℕ) (d : Used) → t' ≡ in_word t → length us ≡ length js → ((j : ℕ) → Contains js j → get_or sizes j 0 ≡ in_word (size_of j)) → nth < length us

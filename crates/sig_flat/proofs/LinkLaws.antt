@@ -20,7 +20,7 @@ use Rattle.sig_flat.specs.Places.{own_names}
 use Rattle.sig_flat.specs.Flats.{alive_modes, IsPlace, IsLinkOf}
 use Rattle.sig_flat.specs.Words.{place_among}
 use Rattle.sig_flat.specs.Known.{use_names, EndIsKnown, IsKnown}
-use Rattle.sig_flat.specs.Layouts.{numbers_of_block, inners_from, no_inner, port_place, end_place, link_pattern, NamesUse, LinkNamesUses}
+use Rattle.sig_flat.specs.Layouts.{numbers_of_block, inners_from, no_inner, port_place, end_place, link_pattern, NamesUse}
 use Rattle.sig_types.specs.Breaches.{block_names}
 use Rattle.sig_flat.specs.Placed.{link_copy, NestEarlier}
 use Rattle.sig_flat.specs.Surveys.{numbers_of, own_of}
@@ -59,15 +59,9 @@ module _ (model : Model) (known : IsKnown model) where
       none (m, lt, e) = absurd (let f : ⊥ = omega arith in f)
 
   -- a link's ends with ports name uses
-  names-use : (k : ℕ) → (first : List ℕ) (second : Option (List ℕ)) → EndIsKnown model.blocks (block_at model.blocks k) first second → NamesUse (use_names (block_at model.blocks k)) first second
+  pub names-use : (k : ℕ) → (first : List ℕ) (second : Option (List ℕ)) → EndIsKnown model.blocks (block_at model.blocks k) first second → NamesUse (use_names (block_at model.blocks k)) first second
   names-use k first None h = tt
   names-use k first (Some port) h = h.0
-
-  pub links-name-uses : (k : ℕ) (link : Link) → k < length model.blocks → Contains (block_at model.blocks k).links link → LinkNamesUses (use_names (block_at model.blocks k)) link
-  links-name-uses k link lt i = record {
-    from = names-use k link.from.first link.from.second ((known.block k lt).from link i);
-    to = names-use k link.to.first link.to.second ((known.block k lt).to link i);
-  }
 
   module _ (sizes : List ℕ) (sized : (k : ℕ) → k < length model.blocks → get_or sizes k 0 ≡ in_word (size (own_of model) (numbers_of model) k)) (inners : List (List Inner)) (long : length inners ≡ length model.blocks) (nested : (k : ℕ) → k < length model.blocks → get_or inners k [] ≡ inners_from sizes (length (own_names (block_at model.blocks k))) (block_at model.blocks k).uses (get_or (numbers_of model) k [])) where
     -- an instance inside is of one of the blocks

@@ -1,9 +1,12 @@
 -- Names among names: a name that is there stands at its place.
-use Rattle.std.proofs.Common.{◌≡◌, ℕ, suc, ◌+◌, ◌<◌, List, [], ◌∷◌, length, refl, sym, ap, ◌∙◌, arith, Bool, true, false}
+use Rattle.std.proofs.Common.{◌≡◌, ℕ, suc, ◌+◌, ◌<◌, ◌≤◌, List, [], ◌∷◌, ◌++◌, length, refl, sym, ap, ◌∙◌, arith, Bool, true, false}
 use Rattle.std.specs.Prelude.{cond, map, slice_get, not, ◌||◌, Some}
 use Rattle.std.specs.List.{position_or_len, list_any}
 use Rattle.std.specs.Str.{bytes_eq}
+use Rattle.std.proofs.lemmas.Bool.{eq-eqb, ne_eqb}
 use Rattle.std.proofs.lemmas.Bool.Decides.{same_from_decides}
+use Rattle.std.proofs.lemmas.List.Folds.{prefix_len-append}
+use Rattle.std.proofs.lemmas.List.Sums.{prefix_len-le-length}
 use Rattle.std.proofs.lemmas.Slice.Eq.{bytes_eq-Decides}
 use Rattle.sig_types.specs.declared.model.Block.{Block}
 use Rattle.sig_types.specs.declared.model.Used.{Used}
@@ -37,6 +40,19 @@ place-found (n ∷ names) name lt = at_head (bytes_eq name n) refl (place-found 
         let below : place_among names name < length names = omega arith in
         let one : 1 + place_among names name ≡ suc (place_among names name) = omega arith in
         ap (slice_get (n ∷ names)) one ∙ h below
+
+-- a name that stands in the front of a list has its place there
+pub place-left : (xs ys : List (List ℕ)) (name : List ℕ) → place_among xs name < length xs → place_among (xs ++ ys) name ≡ place_among xs name
+place-left xs ys name lt =
+    prefix_len-append (λ n. not (bytes_eq name n)) xs ys
+    ∙ ap (λ b. cond b (length xs + position_or_len (bytes_eq name) ys) (position_or_len (bytes_eq name) xs)) (ne_eqb (position_or_len (bytes_eq name) xs) (length xs) (λ e. omega arith))
+
+-- and one that doesn't has its place behind the front
+pub place-right : (xs ys : List (List ℕ)) (name : List ℕ) → length xs ≤ place_among xs name → place_among (xs ++ ys) name ≡ length xs + place_among ys name
+place-right xs ys name le =
+    let end = prefix_len-le-length (λ n. not (bytes_eq name n)) xs in
+    prefix_len-append (λ n. not (bytes_eq name n)) xs ys
+    ∙ ap (λ b. cond b (length xs + position_or_len (bytes_eq name) ys) (position_or_len (bytes_eq name) xs)) (eq-eqb (position_or_len (bytes_eq name) xs) (length xs) (omega arith))
 
 -- the block of a name stands at its place
 pub named-at : (blocks : List Block) (name : List ℕ) → block_named blocks name ≡ block_at blocks (place_among (map (λ (b : Block). b.name) blocks) name)

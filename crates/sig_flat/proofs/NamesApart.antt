@@ -1,6 +1,6 @@
 -- In a model without breach no name repeats in its scope: among the modes, and among the items and uses of a block.
-use Rattle.std.proofs.Common.{◌≡◌, ℕ, zero, suc, ◌+◌, ◌<◌, Bool, true, false, ◌||◌, cond, List, [], ◌∷◌, ◌++◌, map, refl, sym, ap, ◌∙◌, subst, arith, true≢false}
-use Rattle.std.specs.List.{Contains, list_any}
+use Rattle.std.proofs.Common.{◌≡◌, ℕ, zero, suc, ◌+◌, ◌<◌, Bool, true, false, ◌||◌, cond, List, [], ◌∷◌, ◌++◌, length, map, refl, sym, ap, ◌∙◌, subst, arith, true≢false}
+use Rattle.std.specs.List.{Contains}
 use Rattle.std.specs.Str.{bytes_eq}
 use Rattle.std.proofs.lemmas.List.Elements.{Contains-append_left, Contains-append_right}
 use Rattle.std.proofs.lemmas.Slice.Eq.{bytes_eq-Decides}
@@ -13,10 +13,12 @@ use Rattle.sig_types.specs.declared.refusals.Code.TheVariants.{M07}
 use Rattle.sig_types.specs.declared.refusals.Key.TheVariants.{Modes}
 use Rattle.std.specs.Prelude.{Some}
 use Rattle.sig_types.specs.Breaches.{Named, names_of, has, breach_if, repeats, repeats_after, scope_of, in_document, block_breaches, breaches, contents_breaches, count_breaches, indexed_breaches, repeated_at_top}
-use Rattle.sig_flat.specs.Instances.{block_named}
+use Rattle.sig_types.specs.Symbols.{item_names}
+use Rattle.sig_flat.specs.Instances.{no_block, block_named}
+use Rattle.sig_flat.specs.Resolved.{block_at}
 use Rattle.sig_flat.proofs.ApartLaws.{AreApart, apart-append, apart-left, apart-right, apart-between, contains-none, contains-here, contains-later}
 use Rattle.sig_flat.proofs.NodePaths.{IsApart}
-use Rattle.sig_flat.proofs.ValidLaws.{both-empty, no-breach, each-of, names-each, scope-names, map-id}
+use Rattle.sig_flat.proofs.ValidLaws.{both-empty, no-breach, each-at, each-of, names-each, scope-names, map-id}
 
 -- a name that a list has is found there
 contains-has : (names : List (List ℕ)) (name : List ℕ) → Contains names name → has names name ≡ true
@@ -50,7 +52,11 @@ fresh seen (x ∷ rest) e =
 pub scope-apart : (scope : List Named) → repeats scope ≡ [] → AreApart (names_of scope)
 scope-apart scope e = (fresh [] scope e).0
 
--- of a block
+-- the items of a block
+items-apart : (model : Model) (b : ℕ) (block : Block) → block_breaches model b block ≡ [] → AreApart (item_names block)
+items-apart model b block e = subst AreApart (scope-names b block) (scope-apart (scope_of b block) ((both-empty (repeats (scope_of b block)) (contents_breaches model b block) e).0))
+
+-- the nodes and the uses of a block
 pub block-apart : (model : Model) (b : ℕ) (block : Block) → block_breaches model b block ≡ [] → IsApart block
 block-apart model b block e = record {
   own = apart-append front points (apart-left front uses (apart-left (front ++ uses) points whole)) (apart-right (front ++ uses) points whole)
@@ -68,7 +74,7 @@ block-apart model b block e = record {
     points = map (λ (p : Point). p.name) block.points
 
     whole : AreApart ((front ++ uses) ++ points)
-    whole = subst AreApart (scope-names b block) (scope-apart (scope_of b block) ((both-empty (repeats (scope_of b block)) (contents_breaches model b block) e).0))
+    whole = items-apart model b block e
 
 -- of the block of any name
 named-apart : (blocks : List Block) → ((b : Block) → Contains blocks b → IsApart b) → (name : List ℕ) → IsApart (block_named blocks name)
@@ -87,6 +93,10 @@ module _ (model : Model) (sound : breaches model ≡ []) where
   blocks-apart = named-apart model.blocks (λ b there.
       let at = each-of (block_breaches model) model.blocks b ((both-empty _ _ parts.1).0) there in
       block-apart model at.0 b at.1)
+
+  pub items-apart-at : (k : ℕ) → k < length model.blocks → AreApart (item_names (block_at model.blocks k))
+  items-apart-at k lt =
+      items-apart model (0 + k) (block_at model.blocks k) (each-at (block_breaches model) 0 model.blocks ((both-empty _ _ parts.1).0) k no_block lt)
 
   pub modes-apart : AreApart model.modes
   modes-apart =

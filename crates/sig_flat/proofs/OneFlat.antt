@@ -1,6 +1,6 @@
 -- A model without breach has one flat model: what the definition asks of each node, link, fault and test of a flat model
 -- leaves it no choice. A set of names is a word by its bits; a path is that of one node, and a mode's name that of one mode.
-use Rattle.std.proofs.Common.{◌≡◌, ℕ, zero, suc, ◌<◌, true, false, List, [], ◌∷◌, map, length, Option, Some, None, refl, sym, ap, ◌∙◌, subst, arith, true≢false}
+use Rattle.std.proofs.Common.{◌≡◌, ℕ, zero, suc, ◌<◌, List, [], ◌∷◌, map, length, Option, Some, None, refl, sym, ap, ◌∙◌, subst, arith, true≢false}
 use Rattle.std.specs.Prelude.{nat_eq}
 use Rattle.std.specs.List.{AllZip}
 use Rattle.std.specs.Int.{bit_at}
@@ -16,7 +16,7 @@ use denote.Struct.Props.{props}
 use Rattle.sig_flat.specs.FlatLists.{AreValid}
 use Rattle.sig_flat.specs.Instances.{Path, NodeItem, LinkItem, FaultItem, TestItem, nodes, links, faults, tests, block_named}
 use Rattle.sig_flat.specs.Flats.{IsSetOf, IsPlace, IsModeOf, IsNodeOf, IsLinkOf, IsFaultOf, IsTestOf, IsFlatOf}
-use Rattle.sig_flat.proofs.ApartLaws.{AreApart, one-place}
+use Rattle.sig_flat.proofs.ApartLaws.{one-place}
 use Rattle.sig_flat.proofs.NamesApart.{blocks-apart, modes-apart}
 use Rattle.sig_flat.proofs.NodePaths.{apart-paths}
 use Rattle.sig_flat.proofs.PlaceLaws.{path_of}

@@ -4,8 +4,6 @@ use Rattle.std.specs.Prelude.{ℕ, ◌+◌, ◌<◌, List, [], ◌∷◌, map, l
 use Rattle.sig_types.specs.declared.model.Block.{Block}
 use Rattle.sig_types.specs.declared.model.Used.{Used}
 use Rattle.sig_types.specs.declared.model.Link.{Link}
-use Rattle.sig_flat.specs.declared.pattern.NodePattern.{NodePattern}
-use Rattle.sig_flat.specs.declared.pattern.Pattern.{Pattern}
 use Rattle.sig_flat.specs.declared.inner.Inner.{Inner}
 use Rattle.sig_flat.specs.declared.links.LinkPattern.{LinkPattern}
 use Rattle.sig_flat.specs.Flats.{alive_modes}
@@ -18,9 +16,6 @@ number_of names used = place_among names used.block
 
 abbrev pub numbers_of_block : List (List ℕ) → Block → List ℕ
 numbers_of_block names block = map (number_of names) block.uses
-
-abbrev pub pattern_names : Pattern → List (List ℕ)
-pattern_names pattern = map (λ (node : NodePattern). node.name) pattern.nodes
 
 -- the uses, each with its block and the place where its instance begins
 abbrev pub inners_from : List ℕ → ℕ → List Used → List ℕ → List Inner
@@ -52,7 +47,3 @@ link_pattern modes own uses inners names link = record {
 abbrev pub NamesUse : List (List ℕ) → List ℕ → Option (List ℕ) → Type 0
 NamesUse uses first None = Unit {0}
 NamesUse uses first (Some port) = place_among uses first < length uses
-
-pub record LinkNamesUses (uses : List (List ℕ)) (link : Link) : Type 0 where
-  pub from : NamesUse uses link.from.first link.from.second
-  pub to : NamesUse uses link.to.first link.to.second

@@ -90,7 +90,11 @@ pub record AreInners (model : Model) (sizes : List ℕ) (inners : List (List Inn
   pub long : length inners ≡ length model.blocks
   pub nested : (k : ℕ) → k < length model.blocks → slice_index_or inners k [] ≡ inners_from sizes (length (own_names (block_at model.blocks k))) (block_at model.blocks k).uses (slice_index_or (numbers_of model) k [])
 
+-- the links of a block, which has these instances inside
+abbrev pub links_with : Model → ℕ → List Inner → List LinkPattern
+links_with model k inners = map (link_pattern model.modes (own_names (block_at model.blocks k)) (use_names (block_at model.blocks k)) inners (map own_names model.blocks)) (block_at model.blocks k).links
+
 -- for each block its links
 pub record AreLinks (model : Model) (inners : List (List Inner)) (joined : List (List LinkPattern)) : Type 0 where
   pub long : length joined ≡ length model.blocks
-  pub each : (k : ℕ) → k < length model.blocks → slice_index_or joined k [] ≡ map (link_pattern model.modes (own_names (block_at model.blocks k)) (use_names (block_at model.blocks k)) (slice_index_or inners k []) (map own_names model.blocks)) (block_at model.blocks k).links
+  pub each : (k : ℕ) → k < length model.blocks → slice_index_or joined k [] ≡ links_with model k (slice_index_or inners k [])

@@ -1,5 +1,5 @@
 -- The word of a set of names: the bit of each name's place is set.
-use Rattle.std.specs.Prelude.{ℕ, ◌^◌, nat_lt, cond, Bool, List, [], ◌∷◌, length, Option, Some, None}
+use Rattle.std.specs.Prelude.{ℕ, ◌^◌, nat_lt, cond, List, [], ◌∷◌, length}
 use Rattle.std.specs.List.{position_or_len}
 use Rattle.std.specs.Str.{bytes_eq}
 use Rattle.std.specs.Int.Bits.{bit_or}
@@ -19,8 +19,3 @@ with_names all word (name ∷ rest) = with_names all (with_name all word name) r
 
 unfoldable pub word_of : List (List ℕ) → List (List ℕ) → ℕ
 word_of all names = with_names all 0 names
-
--- the place that was there, and else the last one where that passes
-abbrev pub or_last : Option ℕ → Bool → ℕ → Option ℕ
-or_last (Some k) passes last = Some k
-or_last None passes last = cond passes (Some last) None

@@ -5,12 +5,11 @@ ghost use Rattle.sig_flat.specs.Counts.{flat_refusal};
 ghost use Rattle.sig_flat.specs.Known.{IsKnown};
 ghost use Rattle.sig_flat.specs.Counting.{sizes_in};
 ghost use Rattle.sig_flat.specs.Placed.{placed_at, PrefixesShown};
-ghost use Rattle.sig_flat.specs.Surveys.{top_of, IsSurvey, AreInners, AreLinks, IsPlacing};
+ghost use Rattle.sig_flat.specs.Surveys.{top_of, IsSurvey, AreInners, IsPlacing};
 
 use crate::inner::Inner;
 use crate::layout::{inners_of_blocks, links_of_blocks};
 use crate::links::LinkPattern;
-use crate::numbers::places_of_blocks;
 use crate::survey::Survey;
 use crate::walk::{Placed, place_instances};
 use sig_types::{List, Valid};
@@ -42,27 +41,6 @@ fn inners_of_model(
     Ok(inners)
 }
 
-/// For each block its links.
-fn links_of_model(
-    alloc: Global,
-    valid: &Valid,
-    survey: &Survey,
-    inners: &[List<Inner>],
-) -> Result<Vec<List<LinkPattern>>, AllocError>
-    requires known { IsKnown valid.now }
-    requires survey { IsSurvey valid.now survey.now }
-    requires inners { AreInners valid.now (sizes_in survey.now.counts.items) inners.now }
-    ensures { IfOk result (λ links. AreLinks valid.now inners.now links.items) }
-{
-    let model = valid.model();
-    let blocks = model.blocks.as_slice();
-    let patterns = survey.patterns.as_slice();
-    let places = places_of_blocks(alloc, patterns)?;
-    let names = places.as_slice();
-    let links = links_of_blocks(alloc, valid, blocks, inners, names)?;
-    Ok(links)
-}
-
 /// The instances, by one walk from the top block down.
 fn placed_of_model(
     alloc: Global,
@@ -92,7 +70,7 @@ pub fn placing_of(alloc: Global, valid: &Valid, survey: &Survey) -> Result<Placi
 {
     let inners = inners_of_model(alloc, valid, survey)?;
     let inside = inners.as_slice();
-    let links = links_of_model(alloc, valid, survey, inside)?;
+    let links = links_of_blocks(alloc, valid, inside)?;
     let placed = placed_of_model(alloc, valid, survey, inside)?;
     Ok(Placing { placed, links })
 }

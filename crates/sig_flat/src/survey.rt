@@ -1,15 +1,16 @@
 //! What is found out about a model before anything is unfolded: the patterns of its blocks, which block
 //! each use has, and how much an instance of each block has with all its uses.
-ghost use Rattle.std.specs.Prelude.{◌≡◌, IfOk};
+ghost use Rattle.std.specs.Prelude.{◌≡◌, ◌≤◌, map, length, IfOk};
+ghost use Rattle.sig_types.specs.Breaches.{block_names};
 ghost use Rattle.sig_flat.specs.Known.{IsKnown};
+ghost use Rattle.sig_flat.specs.Layouts.{number_of, numbers_of_block};
 ghost use Rattle.sig_flat.specs.Surveys.{top_of, IsSurvey, CountsAre};
 
 use crate::counting::counts_of_blocks;
 use crate::counts::Counts;
 use crate::lookups::block_place;
-use crate::numbers::numbers_of_blocks;
 use crate::pattern::{Pattern, patterns_of};
-use sig_types::{List, Valid};
+use sig_types::{Block, List, Used, Valid};
 use std::alloc::{AllocError, Global};
 
 #[derive(Drop)]
@@ -20,6 +21,34 @@ pub struct Survey {
     /// For each block how much an instance of it has.
     pub counts: Vec<Counts>,
     pub top: u32,
+}
+
+/// The number of the block that each use has.
+fn numbers_of_uses(alloc: Global, valid: &Valid, uses: &[Used]) -> Result<List<u32>, AllocError>
+    requires { length valid.now.blocks ≤ 1024 }
+    ensures { IfOk result (λ numbers. numbers ≡ map (number_of (block_names valid.now)) uses.now) }
+{
+    let mut numbers = List::new(alloc);
+    for used in uses {
+        numbers.push(block_place(valid, &used.block) as u32)?;
+    }
+    Ok(numbers)
+}
+
+/// For each block the numbers of the blocks that it uses.
+fn numbers_of_blocks(
+    alloc: Global,
+    valid: &Valid,
+    blocks: &[Block],
+) -> Result<Vec<List<u32>>, AllocError>
+    requires { length valid.now.blocks ≤ 1024 }
+    ensures { IfOk result (λ numbers. numbers.items ≡ map (numbers_of_block (block_names valid.now)) blocks.now) }
+{
+    let mut numbers = Vec::with_capacity(alloc, blocks.len())?;
+    for block in blocks {
+        numbers.push(numbers_of_uses(alloc, valid, block.uses.as_slice())?)?;
+    }
+    Ok(numbers)
 }
 
 /// How much the unfolded model has: as much as an instance of the top block.

@@ -2,10 +2,10 @@
 //! Every function of this module tells the first breach of its part of that order, and a later part is looked at only
 //! where the earlier ones have none. Names are looked up in sets that are made once, so that all of it takes a few
 //! look-ups for each name of the model.
-ghost use Rattle.std.specs.Prelude.{◌≡◌, [], IfOk, IfErr};
+ghost use Rattle.std.specs.Prelude.{◌≡◌, [], map, IfOk, IfErr};
 ghost use Rattle.sig_types.specs.Breaches.{breaches, count_breaches, indexed_breaches, known_modes, or_normal, too_many};
 ghost use Rattle.sig_types.specs.Refused.{IsVerdict, TellsFirst};
-ghost use Rattle.sig_types.specs.Symbols.{AreSymbolsOf};
+ghost use Rattle.sig_types.specs.Symbols.{items_by_block, AreSymbolsOf};
 
 mod block;
 mod index;
@@ -22,6 +22,7 @@ use crate::symbols::Symbols;
 use crate::valid::Valid;
 use block::check_blocks;
 use index::{Index, normal};
+use indexmap::IndexSet;
 use names::refuse_if;
 use std::alloc::{AllocError, Global};
 
@@ -48,14 +49,20 @@ fn check_counts(model: &Model) -> Result<(), ModelFault>
     check_count(Counted::Blocks, MOST_BLOCKS, model.blocks.len())
 }
 
-/// The blocks, and then the top.
-fn check_indexed(alloc: Global, index: &Index, model: &Model) -> Result<(), ModelFault>
+/// The blocks, and then the top. Gives for each block the names of its items.
+fn check_indexed(
+    alloc: Global,
+    index: &Index,
+    model: &Model,
+) -> Result<Vec<IndexSet<Name>>, ModelFault>
     requires { index.now ≡ model.now }
-    ensures { IsVerdict (indexed_breaches model.now) result }
+    ensures verdict { IsVerdict (indexed_breaches model.now) result }
+    ensures items { IfOk result (λ items. map (λ names. names.keys) items.items ≡ items_by_block model.now) }
 {
-    check_blocks(alloc, index, model.blocks.as_slice())?;
+    let items = check_blocks(alloc, index, model.blocks.as_slice())?;
     let top = Spot::document().at(Key::Top).place();
-    refuse_if(index.block_number(&model.top).is_none(), Code::M08, top)
+    refuse_if(index.block_number(&model.top).is_none(), Code::M08, top)?;
+    Ok(items)
 }
 
 fn check_model(alloc: Global, model: &Model) -> Result<Symbols, ModelFault>
@@ -64,8 +71,8 @@ fn check_model(alloc: Global, model: &Model) -> Result<Symbols, ModelFault>
 {
     check_counts(model)?;
     let index = Index::of(alloc, model)?;
-    check_indexed(alloc, &index, model)?;
-    Ok(index.into_symbols())
+    let items = check_indexed(alloc, &index, model)?;
+    Ok(index.into_symbols(items))
 }
 
 /// The modes that a model is kept with.

@@ -1,10 +1,10 @@
 //! A model that was checked. It is made by `Model::check` alone, so whoever holds one may rely on the absence of every
 //! breach, and on at least one mode: a model that declares none is kept with the one mode `normal`. It keeps the names
 //! by number that the check was made with.
-ghost use Rattle.std.specs.Prelude.{◌≡◌, ◌≤◌, [], length, position};
+ghost use Rattle.std.specs.Prelude.{◌≡◌, ◌<◌, ◌≤◌, [], length, position, slice_index_or};
 ghost use Rattle.std.specs.Str.{bytes_eq};
 ghost use Rattle.sig_types.specs.Breaches.{block_names, breaches};
-ghost use Rattle.sig_types.specs.Symbols.{AreSymbolsOf};
+ghost use Rattle.sig_types.specs.Symbols.{items_by_block, AreSymbolsOf};
 
 use crate::model::Model;
 use crate::name::Name;
@@ -61,6 +61,23 @@ impl Valid {
         ensures { result ≡ position (bytes_eq name.now) self.now.modes }
     {
         self.symbols.modes.get_index_of(name)
+    }
+
+    /// How many items a block has: ports, switches, parts, uses and points.
+    pub fn item_count(&self, block: usize) -> usize
+        requires { block < length self.now.blocks }
+        ensures { result ≡ length (slice_index_or (items_by_block self.now) block []) }
+    {
+        self.symbols.items[block].len()
+    }
+
+    /// The number of the item of this name in a block, whose ports, switches, parts, uses and points are counted in this
+    /// order; in one look-up.
+    pub fn item_number(&self, block: usize, name: &Name) -> Option<usize>
+        requires { block < length self.now.blocks }
+        ensures { result ≡ position (bytes_eq name.now) (slice_index_or (items_by_block self.now) block []) }
+    {
+        self.symbols.items[block].get_index_of(name)
     }
 
     /// The number of the block of this name, in one look-up.

@@ -1,9 +1,10 @@
 //! The rules of a block, in the order in which they are looked at: names that repeat, then parts, uses, tests and links.
 //! A block is checked on its own; of other blocks only the names and the ports count.
-ghost use Rattle.std.specs.Prelude.{◌≡◌};
+ghost use Rattle.std.specs.Prelude.{◌≡◌, map, IfOk};
 ghost use Rattle.sig_types.specs.Breaches.{block_breaches, contents_breaches, each, functional_signals, mode_breaches, part_breaches, repeated_tests, test_breaches, unknown_among, use_breaches};
 ghost use Rattle.sig_types.specs.Spots.{element_place};
 ghost use Rattle.sig_types.specs.Refused.{IsVerdict};
+ghost use Rattle.sig_types.specs.Symbols.{item_names};
 ghost use Rattle.sig_types.specs.declared.model.Point.{Point};
 
 use crate::check::index::Index;
@@ -14,6 +15,7 @@ use crate::model::{Block, Functional, Part, Point, Test, Used};
 use crate::name::Name;
 use crate::refusals::{Code, Key, Kind, ModelFault, Place};
 use crate::spot::Spot;
+use indexmap::IndexSet;
 use std::alloc::Global;
 
 /// Looks for names that repeat among the tests of a point.
@@ -142,19 +144,33 @@ fn check_contents(
     check_links(index, scope, block.links.as_slice())
 }
 
-/// Looks at one block. Takes a look-up for each name that stands in it.
-fn check_block(alloc: Global, index: &Index, number: u64, block: &Block) -> Result<(), ModelFault>
-    ensures { IsVerdict (block_breaches index.now number block.now) result }
+/// Looks at one block, and gives the names of its items. Takes a look-up for each name that stands in it.
+fn check_block(
+    alloc: Global,
+    index: &Index,
+    number: u64,
+    block: &Block,
+) -> Result<IndexSet<Name>, ModelFault>
+    ensures verdict { IsVerdict (block_breaches index.now number block.now) result }
+    ensures names { IfOk result (λ names. names.keys ≡ item_names block.now) }
 {
     let scope = Scope::of(alloc, number, block)?;
-    check_contents(alloc, index, &scope, number, block)
+    check_contents(alloc, index, &scope, number, block)?;
+    Ok(scope.into_names())
 }
 
-pub(crate) fn check_blocks(alloc: Global, index: &Index, blocks: &[Block]) -> Result<(), ModelFault>
-    ensures { IsVerdict (each (block_breaches index.now) blocks.now) result }
+/// Looks at the blocks, and gives for each the names of its items.
+pub(crate) fn check_blocks(
+    alloc: Global,
+    index: &Index,
+    blocks: &[Block],
+) -> Result<Vec<IndexSet<Name>>, ModelFault>
+    ensures verdict { IsVerdict (each (block_breaches index.now) blocks.now) result }
+    ensures items { IfOk result (λ items. map (λ names. names.keys) items.items ≡ map item_names blocks.now) }
 {
+    let mut items = Vec::with_capacity(alloc, blocks.len())?;
     for (b, block) in blocks.iter().enumerate() {
-        check_block(alloc, index, b as u64, block)?;
+        items.push(check_block(alloc, index, b as u64, block)?)?;
     }
-    Ok(())
+    Ok(items)
 }

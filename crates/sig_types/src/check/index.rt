@@ -5,7 +5,7 @@ ghost use Rattle.std.specs.Str.{bytes_eq};
 ghost use Rattle.indexmap.specs.IndexSet.{insert_all};
 ghost use Rattle.sig_types.specs.Breaches.{block_names, has, has_port, known_modes, or_normal, repeated_at_top};
 ghost use Rattle.sig_types.specs.Refused.{IsVerdict};
-ghost use Rattle.sig_types.specs.Symbols.{AreSymbolsOf};
+ghost use Rattle.sig_types.specs.Symbols.{items_by_block, AreSymbolsOf};
 
 use crate::check::names::number_names;
 use crate::model::{Block, Model};
@@ -20,7 +20,9 @@ use std::alloc::{AllocError, Global};
 #[derive(Drop)]
 pub(crate) struct Index<'a> {
     model: &'a Model,
-    symbols: Symbols,
+    signals: IndexSet<Name>,
+    modes: IndexSet<Name>,
+    blocks: IndexSet<Name>,
     /// By block.
     ports: Vec<IndexSet<Name>>,
 }
@@ -30,13 +32,13 @@ impl<'a> std::marker::Model for Index<'a> {
     ghost use Rattle.std.specs.Str.{bytes_eq};
     ghost use Rattle.indexmap.specs.IndexSet.{insert_all};
     ghost use Rattle.sig_types.specs.declared.model.Model.{Model};
-    ghost use Rattle.sig_types.specs.Symbols.{AreSymbolsOf};
+    ghost use Rattle.sig_types.specs.Breaches.{block_names, known_modes};
 
     ghost Value = { Model };
 
     ghost view = { λ i. i.model.now };
 
-    ghost invariant = { λ i. AreSymbolsOf i.model.now i.symbols × (map (λ ports. ports.keys) i.ports.items ≡ map (λ block. insert_all bytes_eq [] block.ports) i.model.now.blocks) };
+    ghost invariant = { λ i. (i.signals.keys ≡ i.model.now.signals) × (i.modes.keys ≡ known_modes i.model.now) × (i.blocks.keys ≡ block_names i.model.now) × (map (λ ports. ports.keys) i.ports.items ≡ map (λ block. insert_all bytes_eq [] block.ports) i.model.now.blocks) };
 }
 
 /// The one mode of a model that declares none.
@@ -93,36 +95,39 @@ impl<'a> Index<'a> {
         let blocks = number_names(alloc, model.blocks.as_slice(), document)?;
         add_normal(&mut modes)?;
         let ports = ports_of(alloc, model.blocks.as_slice())?;
-        let symbols = Symbols {
+        Ok(Index {
+            model,
             signals,
             modes,
             blocks,
-        };
-        Ok(Index {
-            model,
-            symbols,
             ports,
         })
     }
 
-    /// What of it outlives the check.
-    pub fn into_symbols(self) -> Symbols
+    /// What of it outlives the check, with the items of each block.
+    pub fn into_symbols(self, items: Vec<IndexSet<Name>>) -> Symbols
+        requires { map (λ names. names.keys) items.items ≡ items_by_block self }
         ensures { AreSymbolsOf self.entry result }
     {
-        self.symbols
+        Symbols {
+            signals: self.signals,
+            modes: self.modes,
+            blocks: self.blocks,
+            items,
+        }
     }
 
     pub fn signals(&self) -> &IndexSet<Name>
         ensures { result.now.keys ≡ self.now.signals }
     {
-        &self.symbols.signals
+        &self.signals
     }
 
     /// The modes, of which there is at least `normal`.
     pub fn modes(&self) -> &IndexSet<Name>
         ensures { result.now.keys ≡ known_modes self.now }
     {
-        &self.symbols.modes
+        &self.modes
     }
 
     /// The number of the block of this name.
@@ -130,14 +135,14 @@ impl<'a> Index<'a> {
         ensures number { result ≡ position (bytes_eq name.now) (block_names self.now) }
         ensures found { is_some result ≡ has (block_names self.now) name.now }
     {
-        self.symbols.blocks.get_index_of(name)
+        self.blocks.get_index_of(name)
     }
 
     /// Whether the block of the name has the port.
     pub fn has_port(&self, block: &Name, port: &Name) -> bool
         ensures { result ≡ has_port self.now.blocks block.now port.now }
     {
-        match self.symbols.blocks.get_index_of(block) {
+        match self.blocks.get_index_of(block) {
             Some(number) => self.ports[number].contains(port),
             None => false,
         }

@@ -7,6 +7,7 @@ ghost use Rattle.indexmap.specs.IndexMap.{get};
 ghost use Rattle.sig_types.specs.Breaches.{has, names_of, repeats, scope_of};
 ghost use Rattle.sig_types.specs.Lookups.{used_block};
 ghost use Rattle.sig_types.specs.Refused.{IsVerdict};
+ghost use Rattle.sig_types.specs.Symbols.{item_names};
 
 use crate::check::index::set_of;
 use crate::check::names::take_names;
@@ -36,17 +37,19 @@ impl<'a> std::marker::Model for Scope<'a> {
     ghost use Rattle.indexmap.specs.IndexMap.{get};
     ghost use Rattle.sig_types.specs.Breaches.{names_of, scope_of};
     ghost use Rattle.sig_types.specs.Lookups.{Numbered, used_block};
+    ghost use Rattle.sig_types.specs.Symbols.{item_names};
 
     ghost Value = { Numbered };
 
     ghost view = { λ s. record { number = s.number; block = s.block.now } };
 
-    ghost invariant = { λ s. (s.names.keys ≡ names_of (scope_of s.number s.block.now)) × (s.switches.keys ≡ insert_all bytes_eq [] s.block.now.switches) × ((name : List ℕ) → get bytes_eq s.uses name ≡ used_block s.block.now.uses name) };
+    ghost invariant = { λ s. (s.names.keys ≡ names_of (scope_of s.number s.block.now)) × (s.switches.keys ≡ insert_all bytes_eq [] s.block.now.switches) × ((name : List ℕ) → get bytes_eq s.uses name ≡ used_block s.block.now.uses name) × (s.names.keys ≡ item_names s.block.now) };
 }
 
 /// The names of all items, which share one scope. Looks for those that repeat.
 fn names_in(alloc: Global, number: u64, block: &Block) -> Result<IndexSet<Name>, ModelFault>
     ensures names { IfOk result (λ names. names.keys ≡ names_of (scope_of number block.now)) }
+    ensures items { IfOk result (λ names. names.keys ≡ item_names block.now) }
     ensures verdict { IsVerdict (repeats (scope_of number block.now)) result }
 {
     let mut names = IndexSet::new(alloc);
@@ -98,6 +101,13 @@ impl<'a> Scope<'a> {
             switches,
             uses,
         })
+    }
+
+    /// What of it outlives the check: the names of the items, in order.
+    pub fn into_names(self) -> IndexSet<Name>
+        ensures { result.keys ≡ item_names self.entry.block }
+    {
+        self.names
     }
 
     pub fn number(&self) -> u64

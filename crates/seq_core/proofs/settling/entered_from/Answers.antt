@@ -1,7 +1,7 @@
 use Rattle.std.proofs.Common.{◌≡◌, ◌<◌, ◌∙◌, ap, arith, length, take}
 use Rattle.std.proofs.Math.Seq.{take-length}
 use Rattle.seq_inst.specs.Members.{members}
-use Rattle.seq_core.specs.RowsOf.{rows_of, place_in}
+use Rattle.seq_core.specs.RowsOf.{rows_of, place_of_group}
 use Rattle.seq_core.specs.Settled.{row_at}
 use Rattle.seq_core.proofs.EnterAll.{fresh, absent-next}
 use Rattle.seq_core.proofs.settling.entered_from.Goals as goal
@@ -11,7 +11,7 @@ add-requires-clause-absent c =
     let rows = c.args.rows.now in
     let k = c.loop-row.row-index in
     let lt : k < length rows = omega arith in
-    ap (λ l. place_in (rows_of l) (members (row_at rows k).group)) c.loop-row.invariant.rows ∙ absent-next rows k c.requires.distinct lt
+    ap (λ l. place_of_group (rows_of l) (members (row_at rows k).group)) c.loop-row.invariant.rows ∙ absent-next rows k c.requires.distinct lt
 
 pub returns : goal.returns
 returns c =

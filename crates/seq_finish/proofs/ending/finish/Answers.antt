@@ -8,7 +8,7 @@ use Rattle.seq_inst.specs.Members.{members}
 use Rattle.seq_core.specs.Settled.{groups_in, settled_rows}
 use Rattle.seq_core.specs.Entered.{MayStop}
 use Rattle.seq_graph.specs.Listed.{listed}
-use Rattle.seq_finish.proofs.OutcomeLaws.{rows-real, rows-few, listed-entered, listed-length, listed-settled}
+use Rattle.seq_finish.proofs.OutcomeLaws.{rows-real, rows-few, sound-within, listed-entered, listed-length, listed-settled}
 use Rattle.seq_finish.proofs.ending.finish.Goals as goal
 
 pub of_rows-requires-clause-real : goal.of_rows-requires-clause-real
@@ -19,14 +19,14 @@ of_rows-requires-clause-real c =
 pub of_rows-requires-clause-distinct : goal.of_rows-requires-clause-distinct
 of_rows-requires-clause-distinct c = subst (λ l. AreDistinct (groups_in l)) (sym c.as_slice.ensures.value) c.requires.sound.distinct
 
-pub finish_graph-requires-clause-few : goal.finish_graph-requires-clause-few
-finish_graph-requires-clause-few c =
+pub finish_graph-requires-clause-sound : goal.finish_graph-requires-clause-sound
+finish_graph-requires-clause-sound c =
     let p = problem_of c.args.inst.now in
     let items = c.in_ok-graph.ensures.rows ∙ ap (listed p) c.as_slice.ensures.value in
     let long = ap length items in
     let same = listed-length p c.args.rows.items in
     let few = rows-few p c.args.limit c.args.rows.items c.requires.sound in
-    omega arith
+    sound-within p c.args.limit c.in_ok-graph.graph.rows.items c.in_ok-graph.ensures.sound (omega arith)
 
 pub finish_graph-requires-clause-root : goal.finish_graph-requires-clause-root
 finish_graph-requires-clause-root c = λ more.

@@ -7,14 +7,17 @@ use Rattle.seq_inst.specs.Instances.{problem_of}
 use Rattle.seq_core.specs.RowsOf.{rows_of as rows_from}
 use Rattle.seq_core.specs.Settled.{groups_in, settled_rows}
 use Rattle.seq_core.specs.Entered.{MayStop}
-use Rattle.seq_finish.proofs.OutcomeLaws.{settled-entered, settled-again, settled-sound, sound-within}
+use Rattle.seq_finish.proofs.OutcomeLaws.{settled-entered, settled-again, settled-sound, sound-long}
 use Rattle.seq_finish.proofs.ending.finish_graph.Goals as goal
+
+pub settle-requires-clause-sound : goal.settle-requires-clause-sound
+settle-requires-clause-sound c = sound-long (problem_of c.args.inst.now) c.args.limit c.args.graph.rows.items c.requires.sound
 
 pub finish_settled-requires-clause-sound : goal.finish_settled-requires-clause-sound
 finish_settled-requires-clause-sound c =
     let p = problem_of c.args.inst.now in
     let rows = c.args.graph.rows.items in
-    subst (λ l. IsSound p c.args.limit (rows_from l)) (sym c.in_ok-settle.ensures.rows) (settled-sound p c.args.limit rows (sound-within p c.args.limit rows c.requires.known.rows_are.sound c.requires.few))
+    subst (λ l. IsSound p c.args.limit (rows_from l)) (sym c.in_ok-settle.ensures.rows) (settled-sound p c.args.limit rows c.requires.sound)
 
 pub finish_settled-requires-clause-root : goal.finish_settled-requires-clause-root
 finish_settled-requires-clause-root c = λ more.

@@ -5,7 +5,7 @@ use Rattle.seq_theory.specs.Rows.{AreDistinct}
 use Rattle.seq_inst.specs.Members.{members}
 use Rattle.seq_inst.specs.Instances.{problem_of}
 use Rattle.seq_inst.specs.Trees.{tree_of}
-use Rattle.seq_core.specs.Tables.{numbered}
+use Rattle.seq_core.specs.Tables.{placed_groups}
 use Rattle.seq_core.specs.Settled.{groups_in, settled_rows}
 use Rattle.seq_finish.specs.Outcomes.{IsSettled}
 use Rattle.seq_finish.proofs.OutcomeLaws.{settled-all, settled-entered, are-entered, root-valued, outcome-right, outcome-shape, outcome-proper, outcomes_hold}
@@ -27,10 +27,10 @@ index_of-requires-clause-few c =
     omega arith
 
 pub strategy_of-requires-clause-placed : goal.strategy_of-requires-clause-placed
-strategy_of-requires-clause-placed c = c.in_ok-places.ensures ∙ ap (numbered 0) (c.as_slice.ensures.value ∙ sym c.as_slice-2.ensures.value)
+strategy_of-requires-clause-placed c = c.in_ok-places.ensures ∙ ap (placed_groups 0) (c.as_slice.ensures.value ∙ sym c.as_slice-2.ensures.value)
 
 pub bounds_of-bounds-requires-clause-placed : goal.bounds_of-bounds-requires-clause-placed
-bounds_of-bounds-requires-clause-placed c = c.in_ok-places.ensures ∙ ap (numbered 0) (c.as_slice.ensures.value ∙ sym c.as_slice-3.ensures.value)
+bounds_of-bounds-requires-clause-placed c = c.in_ok-places.ensures ∙ ap (placed_groups 0) (c.as_slice.ensures.value ∙ sym c.as_slice-3.ensures.value)
 
 pub strategy_of-requires-clause-settled : goal.strategy_of-requires-clause-settled
 strategy_of-requires-clause-settled c =

@@ -7,10 +7,11 @@ use Rattle.seq_inst.specs.Members.{members}
 use Rattle.seq_inst.specs.declared.outcome.Row.{Row}
 use Rattle.seq_graph.specs.Numbered.{KeepsNumbers}
 use Rattle.seq_graph.specs.declared.graph.Count.{Count}
-use Rattle.seq_graph.specs.Known.{AreKnown, count_of}
+use Rattle.seq_graph.specs.Known.{AreKnown, AreSound, count_of}
 use Rattle.seq_graph.proofs.NumberLaws.{keeps-long}
 use Rattle.seq_graph.proofs.CountLaws.{counts-long}
 use Rattle.seq_graph.proofs.CountChanges.{counts-grown, added-known}
+use Rattle.seq_graph.proofs.EventLaws.{entered-sound}
 use Rattle.seq_graph.proofs.events.add.Goals as goal
 use Rattle.seq_graph.specs.Counts.{no_count}
 
@@ -59,3 +60,8 @@ returns-clause-known c =
 pub returns-clause-rows : goal.returns-clause-rows
 returns-clause-rows c =
     c.in_ok-push.ensures.items ∙ ap (λ n. c.args.graph.now.rows.items ++ record { group = c.args.group.now; low = 0; up = n } ∷ []) c.in_ok-kept.ensures.kept.greedy
+
+pub returns-clause-sound : goal.returns-clause-sound
+returns-clause-sound c = λ sound.
+    subst (AreSound (problem_of c.args.inst.now)) (sym c.in_ok-push.ensures.items)
+    (entered-sound c.args.inst.now c.args.graph.now.rows.items c.args.group.now c.in_ok-kept.kept.greedy c.requires.real c.requires.new c.in_ok-kept.ensures.kept.greedy sound)

@@ -1,20 +1,28 @@
-use Rattle.std.proofs.Common.{length, sym, ap, subst, arith}
+use Rattle.std.proofs.Common.{◌∙◌, length, sym, ap, subst, arith}
 use Rattle.seq_inst.specs.Members.{members}
 use Rattle.seq_inst.specs.Instances.{problem_of}
-use Rattle.seq_graph.specs.Known.{group_at, IsClosedAt}
-use Rattle.seq_graph.specs.Steps.{ClosesBelow}
-use Rattle.seq_graph.proofs.EventLaws.{length-Narrows}
+use Rattle.seq_graph.specs.Known.{AreBounds, AreSound, Allow, Narrows, group_at}
 use Rattle.seq_graph.proofs.events.back_up.Goals as goal
 
-pub prune-requires-clause-place : goal.prune-requires-clause-place
-prune-requires-clause-place c =
-    let same = ap length c.in_ok-chosen.ensures.rows in
-    let long = length-Narrows c.least_test.new.graph.rows.items c.revise.new.graph.rows.items c.revise.ensures.narrows in
+pub hear-requires-clause-place : goal.hear-requires-clause-place
+hear-requires-clause-place c =
+    let same = ap length c.in_ok-bounds.ensures.rows in
     let place = c.requires.place in
     omega arith
 
+pub hear-requires-clause-right : goal.hear-requires-clause-right
+hear-requires-clause-right c =
+    let b = c.in_ok-bounds.bounds in
+    subst (λ l. AreBounds (problem_of c.args.inst.now) (members (group_at l c.args.place)) b.low b.up) (sym c.in_ok-bounds.ensures.rows) c.in_ok-bounds.ensures.right
+
+pub returns-clause-narrows : goal.returns-clause-narrows
+returns-clause-narrows c = subst (λ l. Narrows l c.hear.new.graph.rows.items) c.in_ok-bounds.ensures.rows c.hear.ensures.narrows
+
 pub returns-clause-closes : goal.returns-clause-closes
-returns-clause-closes c = λ closed.
-    let same = c.in_ok-chosen.ensures.rows in
-    subst (λ l. IsClosedAt l c.args.place) (sym c.prune.ensures.rows)
-    (c.revise.ensures.closes (subst (λ l. ClosesBelow (problem_of c.args.inst.now) l (members (group_at l c.args.place))) (sym same) closed))
+returns-clause-closes c = λ closed. c.hear.ensures.closes (c.in_ok-bounds.ensures.closes closed)
+
+pub returns-clause-sound : goal.returns-clause-sound
+returns-clause-sound c = λ sound.
+    let p = problem_of c.args.inst.now in
+    let b = c.in_ok-bounds.bounds in
+    c.hear.ensures.sound (subst (λ l. Allow p l (members (group_at l c.args.place)) b.low b.up) (sym c.in_ok-bounds.ensures.rows) c.in_ok-bounds.ensures.allowed) (subst (AreSound p) (sym c.in_ok-bounds.ensures.rows) sound)

@@ -5,7 +5,7 @@ use Rattle.seq_theory.proofs.RowLaws.{wanted-within}
 use Rattle.seq_inst.specs.declared.outcome.Row.{Row}
 use Rattle.seq_inst.specs.Members.{members}
 use Rattle.seq_inst.specs.Instances.{problem_of}
-use Rattle.seq_graph.specs.Known.{Narrows}
+use Rattle.seq_graph.specs.Known.{AreSound, Narrows}
 use Rattle.seq_graph.proofs.EventLaws.{length-Narrows, Narrows-trans, Narrows-last}
 use Rattle.seq_graph.proofs.events.enter.Goals as goal
 
@@ -28,3 +28,6 @@ returns-clause-narrows c =
     let small = c.args.inst.now.stands.greedy_fits c.args.group.now (wanted-within p (members c.args.group.now) c.requires.real.wanted) in
     subst (Narrows (old ++ first ∷ [])) (sym c.give_back.ensures.rows)
     (Narrows-trans (old ++ first ∷ []) (old ++ row ∷ []) new (Narrows-last old first row refl (omega arith) (omega arith)) (subst (λ l. Narrows l new) (c.in_ok-add.ensures.rows) c.in_ok-back_up.ensures.narrows))
+
+pub returns-clause-sound : goal.returns-clause-sound
+returns-clause-sound c = λ sound. subst (AreSound (problem_of c.args.inst.now)) (sym c.give_back.ensures.rows) (c.in_ok-back_up.ensures.sound (c.in_ok-add.ensures.sound sound))

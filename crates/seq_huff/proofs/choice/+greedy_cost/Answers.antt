@@ -15,15 +15,8 @@ returns-then-is_leaf t c =
     let value = cost-end (problem_of c.args.inst.now) (members c.args.group.now) c.args.inst.now.valid.told c.requires (sym c.is_leaf.ensures ∙ c.if-is_leaf.true) in
     record { value = value; high = greedy-high c.args.inst.now (members c.args.group.now) 0 c.requires value; fits = omega arith }
 
-pub part-pass_part-requires : goal.part-pass_part-requires
-part-pass_part-requires t c =
-    let l = greedy_there (problem_of c.args.inst.now) (members c.args.group.now) c.greedy_choice-test.result c.args.inst.now.valid.told c.requires (sym c.is_leaf.ensures ∙ c.if-is_leaf.false) c.greedy_choice-test.ensures in
-    let n = c.args.inst.now.passes.ok.0 in
-    let m = c.args.inst.now.valid.as_many in
-    omega arith
-
-pub part-fail_part-requires : goal.part-fail_part-requires
-part-fail_part-requires t c =
+pub parts_of-parts-requires : goal.parts_of-parts-requires
+parts_of-parts-requires t c =
     let l = greedy_there (problem_of c.args.inst.now) (members c.args.group.now) c.greedy_choice-test.result c.args.inst.now.valid.told c.requires (sym c.is_leaf.ensures ∙ c.if-is_leaf.false) c.greedy_choice-test.ensures in
     let n = c.args.inst.now.passes.ok.0 in
     let m = c.args.inst.now.valid.as_many in
@@ -41,7 +34,7 @@ greedy_cost-pass-requires t c =
     let p = problem_of c.args.inst.now in
     let xs = members c.args.group.now in
     let e = sym c.is_leaf.ensures ∙ c.if-is_leaf.false in
-    let g = greedy_parts p xs (members c.part-pass_part.result) (fail_part p c.greedy_choice-test.result xs) c.greedy_choice-test.result c.args.inst.now.valid.told c.requires e c.greedy_choice-test.ensures c.part-pass_part.ensures.classes refl in
+    let g = greedy_parts p xs (members c.parts_of-parts.result.pass) (fail_part p c.greedy_choice-test.result xs) c.greedy_choice-test.result c.args.inst.now.valid.told c.requires e c.greedy_choice-test.ensures c.parts_of-parts.ensures.pass refl in
     let d = c.decreases in
     let s = g.pass_smaller in
     (omega arith, (g.pass_within))
@@ -51,7 +44,7 @@ greedy_cost-fail-requires t c =
     let p = problem_of c.args.inst.now in
     let xs = members c.args.group.now in
     let e = sym c.is_leaf.ensures ∙ c.if-is_leaf.false in
-    let g = greedy_parts p xs (members c.part-pass_part.result) (members c.part-fail_part.result) c.greedy_choice-test.result c.args.inst.now.valid.told c.requires e c.greedy_choice-test.ensures c.part-pass_part.ensures.classes c.part-fail_part.ensures.classes in
+    let g = greedy_parts p xs (members c.parts_of-parts.result.pass) (members c.parts_of-parts.result.fail) c.greedy_choice-test.result c.args.inst.now.valid.told c.requires e c.greedy_choice-test.ensures c.parts_of-parts.ensures.pass c.parts_of-parts.ensures.fail in
     let d = c.decreases in
     let s = g.fail_smaller in
     (omega arith, (g.fail_within))
@@ -61,13 +54,13 @@ overflow_mul-result t c =
     let p = problem_of c.args.inst.now in
     let xs = members c.args.group.now in
     let e = sym c.is_leaf.ensures ∙ c.if-is_leaf.false in
-    let g = greedy_parts p xs (members c.part-pass_part.result) (members c.part-fail_part.result) c.greedy_choice-test.result c.args.inst.now.valid.told c.requires e c.greedy_choice-test.ensures c.part-pass_part.ensures.classes c.part-fail_part.ensures.classes in
+    let g = greedy_parts p xs (members c.parts_of-parts.result.pass) (members c.parts_of-parts.result.fail) c.greedy_choice-test.result c.args.inst.now.valid.told c.requires e c.greedy_choice-test.ensures c.parts_of-parts.ensures.pass c.parts_of-parts.ensures.fail in
     let there = g.there in
     let n = c.args.inst.now.costs.ok.0 in
     let cost : c.from.result ≡ p.cost c.greedy_choice-test.result = c.from.ensures ∙ get_or_read c.args.inst.now.costs.items c.greedy_choice-test.result c.index.result.now there c.index.ensures 0 in
     let w = c.weight_of-weight.ensures in
-    let a = greedy-small c.args.inst.now c.part-pass_part.result g.pass_within in
-    let b = greedy-small c.args.inst.now c.part-fail_part.result g.fail_within in
+    let a = greedy-small c.args.inst.now c.parts_of-parts.result.pass g.pass_within in
+    let b = greedy-small c.args.inst.now c.parts_of-parts.result.fail g.fail_within in
     let ea = c.greedy_cost-pass.ensures.value in
     let eb = c.greedy_cost-fail.ensures.value in
     let l = c.args.inst.now.stands.light c.args.group.now c.requires in
@@ -80,13 +73,13 @@ overflow_add-result t c =
     let p = problem_of c.args.inst.now in
     let xs = members c.args.group.now in
     let e = sym c.is_leaf.ensures ∙ c.if-is_leaf.false in
-    let g = greedy_parts p xs (members c.part-pass_part.result) (members c.part-fail_part.result) c.greedy_choice-test.result c.args.inst.now.valid.told c.requires e c.greedy_choice-test.ensures c.part-pass_part.ensures.classes c.part-fail_part.ensures.classes in
+    let g = greedy_parts p xs (members c.parts_of-parts.result.pass) (members c.parts_of-parts.result.fail) c.greedy_choice-test.result c.args.inst.now.valid.told c.requires e c.greedy_choice-test.ensures c.parts_of-parts.ensures.pass c.parts_of-parts.ensures.fail in
     let there = g.there in
     let n = c.args.inst.now.costs.ok.0 in
     let cost : c.from.result ≡ p.cost c.greedy_choice-test.result = c.from.ensures ∙ get_or_read c.args.inst.now.costs.items c.greedy_choice-test.result c.index.result.now there c.index.ensures 0 in
     let w = c.weight_of-weight.ensures in
-    let a = greedy-small c.args.inst.now c.part-pass_part.result g.pass_within in
-    let b = greedy-small c.args.inst.now c.part-fail_part.result g.fail_within in
+    let a = greedy-small c.args.inst.now c.parts_of-parts.result.pass g.pass_within in
+    let b = greedy-small c.args.inst.now c.parts_of-parts.result.fail g.fail_within in
     let ea = c.greedy_cost-pass.ensures.value in
     let eb = c.greedy_cost-fail.ensures.value in
     let l = c.args.inst.now.stands.light c.args.group.now c.requires in
@@ -99,13 +92,13 @@ overflow_add-result-2 t c =
     let p = problem_of c.args.inst.now in
     let xs = members c.args.group.now in
     let e = sym c.is_leaf.ensures ∙ c.if-is_leaf.false in
-    let g = greedy_parts p xs (members c.part-pass_part.result) (members c.part-fail_part.result) c.greedy_choice-test.result c.args.inst.now.valid.told c.requires e c.greedy_choice-test.ensures c.part-pass_part.ensures.classes c.part-fail_part.ensures.classes in
+    let g = greedy_parts p xs (members c.parts_of-parts.result.pass) (members c.parts_of-parts.result.fail) c.greedy_choice-test.result c.args.inst.now.valid.told c.requires e c.greedy_choice-test.ensures c.parts_of-parts.ensures.pass c.parts_of-parts.ensures.fail in
     let there = g.there in
     let n = c.args.inst.now.costs.ok.0 in
     let cost : c.from.result ≡ p.cost c.greedy_choice-test.result = c.from.ensures ∙ get_or_read c.args.inst.now.costs.items c.greedy_choice-test.result c.index.result.now there c.index.ensures 0 in
     let w = c.weight_of-weight.ensures in
-    let a = greedy-small c.args.inst.now c.part-pass_part.result g.pass_within in
-    let b = greedy-small c.args.inst.now c.part-fail_part.result g.fail_within in
+    let a = greedy-small c.args.inst.now c.parts_of-parts.result.pass g.pass_within in
+    let b = greedy-small c.args.inst.now c.parts_of-parts.result.fail g.fail_within in
     let ea = c.greedy_cost-pass.ensures.value in
     let eb = c.greedy_cost-fail.ensures.value in
     let l = c.args.inst.now.stands.light c.args.group.now c.requires in
@@ -118,7 +111,7 @@ returns t c =
     let p = problem_of c.args.inst.now in
     let xs = members c.args.group.now in
     let e = sym c.is_leaf.ensures ∙ c.if-is_leaf.false in
-    let g = greedy_parts p xs (members c.part-pass_part.result) (members c.part-fail_part.result) c.greedy_choice-test.result c.args.inst.now.valid.told c.requires e c.greedy_choice-test.ensures c.part-pass_part.ensures.classes c.part-fail_part.ensures.classes in
+    let g = greedy_parts p xs (members c.parts_of-parts.result.pass) (members c.parts_of-parts.result.fail) c.greedy_choice-test.result c.args.inst.now.valid.told c.requires e c.greedy_choice-test.ensures c.parts_of-parts.ensures.pass c.parts_of-parts.ensures.fail in
     let there = g.there in
     let cost : c.from.result ≡ p.cost c.greedy_choice-test.result = c.from.ensures ∙ get_or_read c.args.inst.now.costs.items c.greedy_choice-test.result c.index.result.now there c.index.ensures 0 in
     let product = ap (λ x. x * c.weight_of-weight.result) cost ∙ ap (λ x. p.cost c.greedy_choice-test.result * x) c.weight_of-weight.ensures in

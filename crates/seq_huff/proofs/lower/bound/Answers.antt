@@ -11,7 +11,7 @@ use Rattle.seq_huff.proofs.lower.bound.Goals as goal
 pub returns-then-is_leaf : goal.returns-then-is_leaf
 returns-then-is_leaf c =
     let value = bound-end (problem_of c.args.inst.now) (members c.args.group.now) (sym c.is_leaf.ensures ∙ c.if-is_leaf.true) in
-    record { value = value; low = bound-low c.args.inst.now (members c.args.group.now) 0 c.requires value; fits = omega arith }
+    record { value = value; low = bound-low c.bounds_hold.ensures c.args.inst.now (members c.args.group.now) 0 c.requires value; fits = omega arith }
 
 pub nonzero_div-whole : goal.nonzero_div-whole
 nonzero_div-whole c =
@@ -67,4 +67,4 @@ returns c =
     let value = bound-is (problem_of c.args.inst.now) (members c.args.group.now) c.sort_upward.new.numbers c.huffman-huffman_cost.result c.weight_of-weight.result c.sum_of_first.result c.number_after.result
     (sym c.is_leaf.ensures ∙ c.if-is_leaf.false) (c.sort_upward.ensures ∙ ap upward c.write_costs-count.ensures.costs) c.huffman-huffman_cost.ensures.value c.weight_of-weight.ensures c.sum_of_first.ensures c.number_after.ensures in
     let small = bound-small c.args.inst.now c.args.group.now c.requires in
-    record { value = value; low = bound-low c.args.inst.now (members c.args.group.now) _ c.requires value; fits = subst (λ n. n ≤ greatest_cost) (sym value) small }
+    record { value = value; low = bound-low c.bounds_hold.ensures c.args.inst.now (members c.args.group.now) _ c.requires value; fits = subst (λ n. n ≤ greatest_cost) (sym value) small }

@@ -11,7 +11,7 @@ use Rattle.seq_huff.proofs.ordered.ordered_bound.Goals as goal
 pub returns-then-is_leaf : goal.returns-then-is_leaf
 returns-then-is_leaf c =
     let value = bound-end (problem_of c.args.inst.now) (members c.args.group.now) (sym c.is_leaf.ensures ∙ c.if-is_leaf.true) in
-    record { value = value; low = bound-low c.args.inst.now (members c.args.group.now) 0 c.requires.within value; fits = omega arith }
+    record { value = value; low = bound-low c.bounds_hold.ensures c.args.inst.now (members c.args.group.now) 0 c.requires.within value; fits = omega arith }
 
 pub sum_of-weight-requires : goal.sum_of-weight-requires
 sum_of-weight-requires c =
@@ -96,4 +96,4 @@ returns c =
     let value = bound-is p xs (splitting_costs p xs) c.merge_sum-huffman_cost.result c.sum_of-weight.result c.first_costs-costs.result.sum c.first_costs-costs.result.next
     more refl (c.merge_sum-huffman_cost.ensures ∙ read.cost) w c.first_costs-costs.ensures.sum c.first_costs-costs.ensures.next in
     let small = bound-small c.args.inst.now c.args.group.now c.requires.within in
-    record { value = value; low = bound-low c.args.inst.now xs _ c.requires.within value; fits = subst (λ n. n ≤ greatest_cost) (sym value) small }
+    record { value = value; low = bound-low c.bounds_hold.ensures c.args.inst.now xs _ c.requires.within value; fits = subst (λ n. n ≤ greatest_cost) (sym value) small }

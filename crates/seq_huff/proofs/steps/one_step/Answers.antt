@@ -15,7 +15,7 @@ use Rattle.seq_huff.proofs.steps.one_step.Goals.{then-splits, else-splits}
 pub returns-then-is_leaf : goal.returns-then-is_leaf
 returns-then-is_leaf c =
     let value = one_step-end (problem_of c.args.inst.now) (members c.args.group.now) (sym c.is_leaf.ensures ∙ c.if-is_leaf.true) in
-    one_step-holds c.args.inst.now (members c.args.group.now) 0 c.requires value (greedy-small c.args.inst.now c.args.group.now c.requires)
+    one_step-holds c.bounds_hold.ensures c.args.inst.now (members c.args.group.now) 0 c.requires value (greedy-small c.args.inst.now c.args.group.now c.requires)
 
 pub loop-test-init : goal.loop-test-init
 loop-test-init c =
@@ -48,4 +48,4 @@ returns c =
     let e : c.loop-test.test ≡ p.tests = omega arith in
     let i : LeastSoFar f (splitting p xs) c.loop-test.least = subst (λ l. LeastSoFar f l c.loop-test.least) (ap (passing_below (splits p xs)) e ∙ passing-all (splits p xs) p.tests) c.loop-test.invariant in
     let value = c.max.ensures ∙ one_step-is p xs c.bound-low.result c.unwrap_or.result (sym c.is_leaf.ensures ∙ c.if-is_leaf.false) c.bound-low.ensures.value (c.unwrap_or.ensures ∙ least_so_far-all f (splitting p xs) c.loop-test.least i) in
-    one_step-holds c.args.inst.now xs _ c.requires value (greedy-small c.args.inst.now c.args.group.now c.requires)
+    one_step-holds c.bounds_hold.ensures c.args.inst.now xs _ c.requires value (greedy-small c.args.inst.now c.args.group.now c.requires)

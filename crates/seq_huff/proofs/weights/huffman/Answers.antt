@@ -12,4 +12,4 @@ pub returns : goal.returns
 returns c =
     let weights = goal_weights-members c.args.inst.now c.args.group.now c.requires in
     let value = c.huffman_of.ensures ∙ ap huff (c.write_weights-count.ensures.weights ∙ sym weights) in
-    record { value = value; weights = weights; least = huffman-undercuts _ c.huffman_of.result value }
+    record { value = value; weights = weights; least = huffman-undercuts c.huffman_is_least.ensures.least _ c.huffman_of.result value }

@@ -1,22 +1,10 @@
-use Rattle.std.proofs.Common.{◌<◌, ◌^◌, arith, ap, sym, get_or, rules}
-use Rattle.std.specs.Prelude.{not, bit_and, bit_xor}
-use Rattle.std.specs.List.{list_any}
-use Rattle.seq_inst.specs.Members.{has_class}
-use Rattle.seq_inst.proofs.MembersLaws.{members_below-zero}
-use Rattle.seq_inst.proofs.WordLaws.{any-found, any-none, word-lacked}
+use Rattle.std.proofs.Common.{ap, ap₂, sym, ◌∙◌}
+use Rattle.std.specs.Prelude.{List, ℕ, not, nat_eq, bit_or}
+use Rattle.std.specs.Simd.Lanes.{fold_l}
+use Rattle.seq_inst.proofs.LaneLaws.{lacked_words, any-lacked}
 use Rattle.seq_inst.proofs.group.lacks.Goals as goal
 
-pub loop-i-init : goal.loop-i-init
-loop-i-init c = ap (list_any (λ k. not (has_class c.args.b.now k))) (members_below-zero c.args.a.now)
-
-pub returns-then-a-i-ne0 : goal.returns-then-a-i-ne0
-returns-then-a-i-ne0 c =
-    let la : get_or c.args.a.now.0 c.loop-i.i 0 < 2 ^ 64 = search rules in
-    let lb : get_or c.args.b.now.0 c.loop-i.i 0 < 2 ^ 64 = search rules in
-    sym (any-found c.args.a.now (λ k. not (has_class c.args.b.now k)) c.loop-i.i (bit_xor (get_or c.args.a.now.0 c.loop-i.i 0) (bit_and (get_or c.args.a.now.0 c.loop-i.i 0) (get_or c.args.b.now.0 c.loop-i.i 0))) (omega arith) (word-lacked c.args.a.now c.args.b.now c.loop-i.i la lb) (omega arith))
-
-pub loop-i-preserved : goal.loop-i-preserved
-loop-i-preserved c =
-    let la : get_or c.args.a.now.0 c.loop-i.i 0 < 2 ^ 64 = search rules in
-    let lb : get_or c.args.b.now.0 c.loop-i.i 0 < 2 ^ 64 = search rules in
-    any-none c.args.a.now (λ k. not (has_class c.args.b.now k)) c.loop-i.i (bit_xor (get_or c.args.a.now.0 c.loop-i.i 0) (bit_and (get_or c.args.a.now.0 c.loop-i.i 0) (get_or c.args.b.now.0 c.loop-i.i 0))) (word-lacked c.args.a.now c.args.b.now c.loop-i.i la lb) c.if-a-i-ne0.false c.loop-i.invariant
+pub returns : goal.returns
+returns c =
+    ap (λ (ws : List ℕ). not (nat_eq (fold_l bit_or 0 ws) 0)) (ap₂ lacked_words c.lanes_of-all.ensures.lanes c.lanes_of.ensures.lanes)
+    ∙ sym (any-lacked c.args.a.now c.args.b.now c.lanes_of-all.ensures.words c.lanes_of.ensures.words)

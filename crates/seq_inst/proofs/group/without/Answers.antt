@@ -1,13 +1,8 @@
-use Rattle.std.proofs.Common.{get_or, arith, bit_and, length-set, ◌∙◌}
-use Rattle.std.specs.Prelude.{bit_xor}
-use Rattle.seq_inst.proofs.MembersLaws.{members-without, word_more}
+use Rattle.std.proofs.Common.{ap₂}
+use Rattle.seq_inst.proofs.LaneLaws.{lacked_words, members-lacked}
 use Rattle.seq_inst.proofs.group.without.Goals as goal
 
-pub loop-i-preserved : goal.loop-i-preserved
-loop-i-preserved c = (
-  length-set c.loop-i.words c.loop-i.i _ ∙ c.loop-i.invariant.0,
-  word_more (λ k. bit_xor (get_or c.args.a.now.0 k 0) (bit_and (get_or c.args.a.now.0 k 0) (get_or c.args.b.now.0 k 0))) c.loop-i.words c.loop-i.i (omega arith) c.loop-i.invariant.1,
-)
-
 pub returns : goal.returns
-returns c = members-without (record { 0 = c.loop-i.words }) c.args.a.now c.args.b.now (λ k h. c.loop-i.invariant.1 k (omega arith))
+returns c =
+    members-lacked (record { 0 = lacked_words c.lanes_of-all.result c.lanes_of.result }) c.args.a.now c.args.b.now c.lanes_of-all.ensures.words.eight c.lanes_of.ensures.words.eight
+    (ap₂ lacked_words c.lanes_of-all.ensures.lanes c.lanes_of.ensures.lanes)

@@ -4,6 +4,6 @@ use Rattle.seq_shown.proofs.laws.reports_hold.Goals as goal
 
 pub returns : goal.returns
 returns c = λ p labels limit o w told right form. record {
-  read = c.one_text.ensures.again (report_from p o labels) form;
+  formed = λ line bad. c.one_text.ensures.no_bad (report_from p o labels) line form bad;
   certified = report-certified p labels limit o w told right form.groups;
 }

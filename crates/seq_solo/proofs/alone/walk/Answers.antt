@@ -2,7 +2,9 @@ use Rattle.std.proofs.Common.{◌≡◌, ◌∙◌, sym, ap, subst, None}
 use Rattle.std.specs.Prelude.{true}
 use Rattle.seq_theory.specs.Graph.{is_entered}
 use Rattle.seq_theory.specs.Problem.{all_classes, is_end}
+use Rattle.seq_theory.specs.Rows.{IsSound}
 use Rattle.seq_inst.specs.Instances.{problem_of}
+use Rattle.seq_core.specs.RowsOf.{rows_of as rows_from}
 use Rattle.seq_core.specs.Settled.{groups_in}
 use Rattle.seq_solo.specs.Found.{BeginsWithAll}
 use Rattle.seq_solo.proofs.RowLaws.{turned-none}
@@ -26,7 +28,7 @@ enter-requires-clause-real c = root-real (problem_of c.args.inst.now) c.root-all
 pub turns-init : goal.turns-init
 turns-init c = record {
   known = c.in_ok-enter.ensures.known;
-  walk = begun (problem_of c.args.inst.now) c.args.limit c.root-all.result c.in_ok-graph.graph.rows.items c.enter.new.graph.rows.items c.requires.some c.root-all.ensures.classes c.in_ok-graph.ensures.rows c.in_ok-enter.ensures.known.rows_are c.in_ok-enter.ensures.narrows;
+  walk = begun (problem_of c.args.inst.now) c.args.limit c.root-all.result c.in_ok-graph.graph.rows.items c.enter.new.graph.rows.items c.requires.some c.root-all.ensures.classes c.in_ok-graph.ensures.rows (c.in_ok-enter.ensures.sound c.in_ok-graph.ensures.sound) c.in_ok-enter.ensures.narrows;
 }
 
 pub turns-preserved : goal.turns-preserved
@@ -36,7 +38,7 @@ turns-preserved c =
     let new = c.turn.new.graph.rows.items in
     record {
       known = c.in_ok-missed.ensures.known;
-      walk = goes-on p c.args.limit old new c.turns.invariant.walk (turned-none p c.args.limit old new c.in_ok-missed.field-0 c.in_default.not-Some c.in_ok-missed.ensures.turned);
+      walk = goes-on p c.args.limit old new c.turns.invariant.walk c.in_ok-missed.ensures.sound (turned-none p c.args.limit old new c.in_ok-missed.field-0 c.in_default.not-Some c.in_ok-missed.ensures.turned);
     }
 
 pub returns-clause-sound : goal.returns-clause-sound
@@ -79,3 +81,10 @@ returns-in-Some-clause-first c =
     let rows = c.turns.graph.rows.items in
     let same = stopped-same p c.args.limit rows c.turn.new.graph.rows.items c.in_ok-missed.field-0 c.in-Some.missed c.in_ok-missed.ensures.turned c.in-Some.is in
     subst (BeginsWithAll p) (sym same) (walking-begins p c.args.limit rows (sym (ap (is_end p) c.root-all.ensures.classes) ∙ sym c.is_leaf.ensures ∙ c.if-is_leaf.false) c.turns.invariant.walk)
+
+pub returns-in-Some-clause-sound : goal.returns-in-Some-clause-sound
+returns-in-Some-clause-sound c =
+    let p = problem_of c.args.inst.now in
+    let rows = c.turns.graph.rows.items in
+    let same = stopped-same p c.args.limit rows c.turn.new.graph.rows.items c.in_ok-missed.field-0 c.in-Some.missed c.in_ok-missed.ensures.turned c.in-Some.is in
+    subst (λ l. IsSound p c.args.limit (rows_from l)) (sym same) (walking-sound p c.args.limit rows c.turns.invariant.walk)

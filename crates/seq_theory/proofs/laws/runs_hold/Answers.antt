@@ -1,5 +1,5 @@
-use Rattle.seq_theory.proofs.PublicLaws.{runs_hold as law, views_hold}
+use Rattle.seq_theory.proofs.PublicLaws.{runs_hold as law, no_rows_are_sound}
 use Rattle.seq_theory.proofs.laws.runs_hold.Goals as goal
 
 pub returns : goal.returns
-returns c = record { runs = law; views = views_hold }
+returns c = record { start = no_rows_are_sound; runs = law }

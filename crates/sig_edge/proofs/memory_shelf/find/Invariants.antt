@@ -1,5 +1,5 @@
 use Rattle.std.proofs.Common.{◌≡◌, drop}
-use Rattle.sig_edge.specs.MemShelf.{found}
+use Rattle.sig_edge.specs.Files.{found}
 use Rattle.sig_edge.proofs.memory_shelf.find.Given as goal
 
 abbrev pub invariant-loop-file : goal.invariant-loop-file

@@ -1,9 +1,6 @@
 use Rattle.std.proofs.Common.{length, sym, ap, ◌∙◌}
 use Rattle.std.specs.Str.{bytes_eq}
-use Rattle.std.proofs.lemmas.List.{length-map}
 use Rattle.sig_types.specs.declared.model.Model.{Model}
-use Rattle.sig_types.specs.declared.model.Block.{Block}
-use Rattle.sig_types.specs.Breaches.{block_names}
 use Rattle.sig_flat.proofs.PlacesLaws.{none-place, some-place}
 use Rattle.sig_flat.proofs.lookups.mode_place.Goals as goal
 

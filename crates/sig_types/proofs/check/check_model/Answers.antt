@@ -9,10 +9,10 @@ pub returns-in_err-index-clause-verdict : goal.returns-in_err-index-clause-verdi
 returns-in_err-index-clause-verdict c =
     handed-on _ _ _ c.from_residual-in_err-index.ensures.1 (tells-left _ _ _ (tells-right _ _ _ c.in_ok-check_counts.ensures.says c.in_err-index.ensures.verdict.says))
 
-pub returns-in_err-check_indexed-clause-verdict : goal.returns-in_err-check_indexed-clause-verdict
-returns-in_err-check_indexed-clause-verdict c =
-    handed-on _ _ _ c.from_residual-in_err-check_indexed.ensures.1 (tells-right _ _ _ (none-in_both _ _ c.in_ok-check_counts.ensures.says c.in_ok-index.ensures.verdict.says) c.in_err-check_indexed.ensures.says)
+pub returns-in_err-items-clause-verdict : goal.returns-in_err-items-clause-verdict
+returns-in_err-items-clause-verdict c =
+    handed-on _ _ _ c.from_residual-in_err-items.ensures.1 (tells-right _ _ _ (none-in_both _ _ c.in_ok-check_counts.ensures.says c.in_ok-index.ensures.verdict.says) c.in_err-items.ensures.verdict.says)
 
 pub returns-clause-verdict : goal.returns-clause-verdict
 returns-clause-verdict c =
-    record { says = none-in_both _ _ (none-in_both _ _ c.in_ok-check_counts.ensures.says c.in_ok-index.ensures.verdict.says) c.in_ok-check_indexed.ensures.says }
+    record { says = none-in_both _ _ (none-in_both _ _ c.in_ok-check_counts.ensures.says c.in_ok-index.ensures.verdict.says) c.in_ok-items.ensures.verdict.says }

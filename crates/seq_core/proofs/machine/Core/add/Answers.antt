@@ -1,8 +1,8 @@
 use Rattle.std.proofs.Common.{◌≡◌, ◌+◌, ◌∙◌, ◌<◌, ◌++◌, ◌∷◌, [], ap, sym, arith, subst, length, rules, length-append}
 use Rattle.seq_inst.specs.Members.{members}
 use Rattle.seq_core.specs.Mapping.{Mapping, place_of}
-use Rattle.seq_core.specs.RowsOf.{rows_of, place_in}
-use Rattle.seq_core.specs.Tables.{Table, numbered}
+use Rattle.seq_core.specs.RowsOf.{rows_of, place_of_group}
+use Rattle.seq_core.specs.Tables.{Table, placed_groups}
 use Rattle.seq_core.specs.Changes.{new_row}
 use Rattle.seq_core.proofs.TableLaws.{numbered-place, numbered-more, length-numbered}
 use Rattle.seq_core.proofs.machine.Core.add.Goals as goal
@@ -10,7 +10,7 @@ use Rattle.seq_core.proofs.machine.Core.add.Goals as goal
 pub add-requires-clause-absent : goal.add-requires-clause-absent
 add-requires-clause-absent c =
     let g = members c.args.group.now in
-    ap (λ l. place_of l g) c.self.invariant.numbers ∙ numbered-place c.self.inside.rows.items g ∙ ap (λ (t : Table). place_in (rows_of t.rows) g) c.self.view_is ∙ c.requires.absent
+    ap (λ l. place_of l g) c.self.invariant.numbers ∙ numbered-place c.self.inside.rows.items g ∙ ap (λ (t : Table). place_of_group (rows_of t.rows) g) c.self.view_is ∙ c.requires.absent
 
 pub add-requires-clause-room : goal.add-requires-clause-room
 add-requires-clause-room c =
@@ -35,8 +35,8 @@ invariant_of-self c =
     let place : c.len-place.result ≡ 0 + length rows = omega arith in
     record {
       numbers = ap (λ (m : Mapping). m.placed) c.add.ensures ∙ ap (λ l. l ++ record { group = members g; place = c.len-place.result } ∷ []) i.numbers
-          ∙ ap (λ k. numbered 0 rows ++ record { group = members g; place = k } ∷ []) place
-          ∙ sym (ap (numbered 0) pushed ∙ numbered-more 0 rows (new_row g));
+          ∙ ap (λ k. placed_groups 0 rows ++ record { group = members g; place = k } ∷ []) place
+          ∙ sym (ap (placed_groups 0) pushed ∙ numbered-more 0 rows (new_row g));
       few = omega arith;
       small = omega arith;
       rows_room = omega arith;

@@ -1,5 +1,5 @@
 use Rattle.std.proofs.Common.{◌≡◌, ◌<◌, ◌≤◌, ◌∙◌, sym, ap, arith, subst, refl, Some, None, Err, length, get_or}
-use Rattle.std.specs.Prelude.{cond, nat_le, true, false, slice_get}
+use Rattle.std.specs.Prelude.{cond, nat_le, true, false}
 use Rattle.std.proofs.lemmas.Bool.{le-leb, lt-leb}
 use Rattle.std.proofs.lemmas.Option.{slice_get_past}
 use Rattle.seq_theory.specs.Rows.{least_up}
@@ -7,7 +7,6 @@ use Rattle.seq_inst.specs.Instances.{problem_of}
 use Rattle.seq_core.specs.declared.event.Event.TheVariants.{Cap}
 use Rattle.seq_core.specs.declared.event.Illegal.TheVariants.{NoPlace, TooLow}
 use Rattle.seq_core.specs.RowsOf.{row_of, rows_of}
-use Rattle.seq_core.specs.Tables.{Table}
 use Rattle.seq_core.specs.Events.{IsCoreOf, cap_refusal, answer}
 use Rattle.seq_core.proofs.TableLaws.{no_row, get-row, length-rows_of}
 use Rattle.seq_core.specs.Changes.{change_row, capped}
@@ -66,5 +65,5 @@ returns-clause-of c =
     let allowed : c.least_up-allowed.result ≡ least_up p (rows_of t.rows) (row_of r).group = c.least_up-allowed.ensures (row_of r) at in
     let le : least_up p (rows_of t.rows) (row_of r).group ≤ c.args.to = omega arith in
     subst (IsCoreOf p) (sym c.cap_to.ensures) (record {
-      sound = sound-after inst t.room t.rows (change_row t.rows c.args.place (capped c.args.to)) (Cap c.args.place c.args.to) c.requires.of.sound (row_of r, at, le) refl;
+      sound = sound-after c.runs_hold.ensures.runs inst t.room t.rows (change_row t.rows c.args.place (capped c.args.to)) (Cap c.args.place c.args.to) c.requires.of.sound (row_of r, at, le) refl;
     })

@@ -1,7 +1,7 @@
 use Rattle.std.proofs.Common.{◌≡◌, ◌<◌, ◌∙◌, sym, ap, arith, subst, refl, length, get_or, set}
 use Rattle.std.proofs.lemmas.List.{get_or_read}
 use Rattle.seq_inst.specs.declared.outcome.Row.{Row}
-use Rattle.seq_core.specs.Tables.{Table, numbered}
+use Rattle.seq_core.specs.Tables.{Table, placed_groups}
 use Rattle.seq_core.specs.Changes.{change_row, capped}
 use Rattle.seq_core.proofs.TableLaws.{no_row}
 use Rattle.seq_core.proofs.ChangeLaws.{set-change, length-change, numbered-change}
@@ -20,7 +20,7 @@ invariant_of-self c =
     let long = ap length changed ∙ length-change rows c.args.place (capped c.args.to) in
     let few = i.few in
     record {
-      numbers = i.numbers ∙ sym (ap (numbered 0) changed ∙ numbered-change 0 rows c.args.place (capped c.args.to) (λ r. refl));
+      numbers = i.numbers ∙ sym (ap (placed_groups 0) changed ∙ numbered-change 0 rows c.args.place (capped c.args.to) (λ r. refl));
       few = omega arith;
       small = i.small;
       rows_room = i.rows_room;

@@ -1,6 +1,5 @@
 use Rattle.std.proofs.Common.{◌≡◌, ◌∙◌, ◌+◌, ◌<◌, ap, sym, arith, subst, refl, length, get_or, max, Some, None}
-use Rattle.std.specs.Prelude.{map}
-use Rattle.seq_theory.specs.Problem.{IsWithin, splits, splitting, least_of}
+use Rattle.seq_theory.specs.Problem.{IsWithin, splits, splitting}
 use Rattle.seq_theory.specs.Bound.{bound}
 use Rattle.seq_theory.specs.Rows.{most_low}
 use Rattle.seq_theory.proofs.LeastOfLaws.{LeastSoFar, least_so_far-more, least_so_far-all}

@@ -19,7 +19,7 @@ invariant_of-self c =
     let some : length (placed_from old.entries) < c.self.inside.room = subst (λ (m : Mapping). length m.placed < m.room) (sym c.self.view_is) c.requires.room in
     let many = length-placed old.entries in
     let none : place_of (placed_from old.entries) (members g) ≡ None = ap (λ (m : Mapping). place_of m.placed (members g)) c.self.view_is ∙ c.requires.absent in
-    let absent : lookup (bytes_eq g.0) old.entries ≡ None = sym (placed-lookup old.entries g.0 i.words c.group_stands.ensures) ∙ none in
+    let absent : lookup (bytes_eq g.0) old.entries ≡ None = sym (placed-lookup c.same_words_hold.ensures old.entries g.0 i.words c.group_stands.ensures) ∙ none in
     let entries : c.insert.new.self.entries ≡ old.entries ++ (g.0, c.args.place) ∷ [] = inserted c.insert.result _ _ (c.insert.ensures.succeeds (omega arith)) c.insert.ensures.entries ∙ insert_entry-new bytes_eq old g.0 c.args.place absent in
     let long = ap length entries ∙ length-append old.entries ((g.0, c.args.place) ∷ []) in
     let s = c.insert.ensures.spare in
@@ -37,7 +37,7 @@ returns c =
     let some : length (placed_from old.entries) < c.self.inside.room = subst (λ (m : Mapping). length m.placed < m.room) (sym c.self.view_is) c.requires.room in
     let many = length-placed old.entries in
     let none : place_of (placed_from old.entries) (members g) ≡ None = ap (λ (m : Mapping). place_of m.placed (members g)) c.self.view_is ∙ c.requires.absent in
-    let absent : lookup (bytes_eq g.0) old.entries ≡ None = sym (placed-lookup old.entries g.0 i.words c.group_stands.ensures) ∙ none in
+    let absent : lookup (bytes_eq g.0) old.entries ≡ None = sym (placed-lookup c.same_words_hold.ensures old.entries g.0 i.words c.group_stands.ensures) ∙ none in
     let entries : c.insert.new.self.entries ≡ old.entries ++ (g.0, c.args.place) ∷ [] = inserted c.insert.result _ _ (c.insert.ensures.succeeds (omega arith)) c.insert.ensures.entries ∙ insert_entry-new bytes_eq old g.0 c.args.place absent in
     ap (λ l. record { room = c.self.inside.room; placed = l }) (placed-more old.entries c.insert.new.self.entries g.0 c.args.place entries)
     ∙ ap (λ (m : Mapping). record { room = m.room; placed = m.placed ++ record { group = members g; place = c.args.place } ∷ [] }) c.self.view_is

@@ -27,6 +27,7 @@ loop-row-preserved c =
     let next : k + 1 ≡ suc k = omega arith in
     record {
       known = c.in_ok-add.ensures.known;
+      sound = c.in_ok-add.ensures.sound c.loop-row.invariant.sound;
       rows = c.in_ok-add.ensures.rows ∙ ap (λ l. l ++ listed_row p (row_at rows k) ∷ []) c.loop-row.invariant.rows ∙ sym (ap (λ n. listed p (take n rows)) next ∙ listed-next p rows k lt);
     }
 

@@ -15,4 +15,4 @@ pub returns-in-None-clause-none : goal.returns-in-None-clause-none
 returns-in-None-clause-none c =
     let g = c.args.group.now in
     subst (λ (v : Numbered). is_entered v.groups (members g) ≡ false) c.self.view_is
-    (absent-number c.self.inside.bounds.entries g.0 c.self.invariant.words c.group_stands.ensures (sym c.get_index_of.ensures.found ∙ ap is_some c.in-None.is))
+    (absent-number c.same_words_hold.ensures c.self.inside.bounds.entries g.0 c.self.invariant.words c.group_stands.ensures (sym c.get_index_of.ensures.found ∙ ap is_some c.in-None.is))

@@ -1,4 +1,4 @@
-use Rattle.std.proofs.Common.{Some, None}
+use Rattle.std.proofs.Common.{◌≡◌, ℕ, List, [], ◌++◌, map, map-id, Some, None}
 use Rattle.sig_types.specs.declared.model.Part.{Part}
 use Rattle.sig_types.specs.declared.model.Used.{Used}
 use Rattle.sig_types.specs.declared.model.Point.{Point}
@@ -78,6 +78,21 @@ returns-clause-names c =
     let e5 = rw (c.as_slice-5.ensures, c.block-spot.ensures) at c.in_ok-take_names-5.ensures in
     let t5 = taken-more (λ (p : Point). p.name) (λ k. in_item c.args.number PointKind k (Some Name) None) c.args.block.now.points _ c.take_names-4.new.seen.keys t4 c.take_names-5.new.seen.keys e5.seen e5.verdict.says in
     t5.keys
+
+-- five lists that are put one after another
+joined : (k k1 k2 k3 k4 k5 ports switches parts uses points : List (List ℕ)) → k ≡ [] → k1 ≡ k ++ map (λ n. n) ports → k2 ≡ k1 ++ map (λ n. n) switches → k3 ≡ k2 ++ parts → k4 ≡ k3 ++ uses → k5 ≡ k4 ++ points
+    → k5 ≡ ports ++ switches ++ parts ++ uses ++ points
+joined k k1 k2 k3 k4 k5 ports switches parts uses points e e1 e2 e3 e4 e5 = cc (map-id ports, map-id switches)
+
+pub returns-clause-items : goal.returns-clause-items
+returns-clause-items c =
+    let none = c.new-names.ensures.empty in
+    let ports = rw c.as_slice.ensures at c.in_ok-take_names.ensures.seen in
+    let switches = rw c.as_slice-2.ensures at c.in_ok-take_names-2.ensures.seen in
+    let parts = rw c.as_slice-3.ensures at c.in_ok-take_names-3.ensures.seen in
+    let uses = rw c.as_slice-4.ensures at c.in_ok-take_names-4.ensures.seen in
+    let points = rw c.as_slice-5.ensures at c.in_ok-take_names-5.ensures.seen in
+    joined _ _ _ _ _ _ c.args.block.now.ports c.args.block.now.switches _ _ _ none ports switches parts uses points
 
 pub returns-clause-verdict : goal.returns-clause-verdict
 returns-clause-verdict c =

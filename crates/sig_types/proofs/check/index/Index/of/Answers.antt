@@ -31,4 +31,4 @@ invariant_of-result c =
     let modes = c.in_ok-add_normal.ensures ∙ ap or_normal (c.in_ok-modes.ensures.names ∙ map-id c.as_slice-2.result.now ∙ c.as_slice-2.ensures) in
     let blocks = rw c.as_slice-3.ensures at c.in_ok-blocks.ensures.names in
     let ports = rw c.as_slice-4.ensures at c.in_ok-ports.ensures in
-    (record { signals = signals; modes = modes; blocks = blocks }, ports)
+    (signals, modes, blocks, ports)

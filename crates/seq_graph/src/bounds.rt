@@ -1,0 +1,62 @@
+//! What the tests of a group allow for its bounds: AO*'s revision from below upwards. Its low may rise to the
+//! least sum of a test over what the parts count for a low, and its up may fall to greedy's cost and to the
+//! sums over what the parts of the evaluated tests count for an up. Whether a row hears these bounds, or
+//! others that were found from them elsewhere, is another step.
+ghost use Rattle.std.specs.Prelude.{◌≡◌, ◌<◌, ◌≤◌, Contains, length, IfOk};
+ghost use Rattle.seq_theory.specs.Bound.{step_sum};
+ghost use Rattle.seq_theory.specs.Rows.{known_low, most_low};
+ghost use Rattle.seq_inst.specs.Members.{members};
+ghost use Rattle.seq_inst.specs.Instances.{problem_of};
+ghost use Rattle.seq_core.specs.RowsOf.{rows_of as rows_from};
+ghost use Rattle.seq_graph.specs.Known.{IsKnown, AreBounds, Allow, group_at, splits_at};
+ghost use Rattle.seq_graph.specs.Settling.{evaluated_up};
+ghost use Rattle.seq_graph.specs.Steps.{least_test as least_test_of, ClosesBelow};
+
+use crate::choice::{Chosen, least_test, least_up};
+use crate::graph::Graph;
+use seq_inst::Instance;
+use std::alloc::AllocError;
+
+/// Bounds on the least cost of a group: it is at least the low and at most the up.
+#[derive(Clone, Copy, Debug, PartialEq, Eq)]
+pub struct Bounds {
+    pub low: u64,
+    /// `u64::MAX` where no upper bound is known.
+    pub up: u64,
+}
+
+/// What the tests of a group allow, by the one of least sum and those that are evaluated.
+pub(crate) fn bounds_by(inst: &Instance, graph: &Graph, place: usize, chosen: Chosen) -> Bounds
+    requires known { IsKnown (problem_of inst.now) graph.now }
+    requires place { place < length graph.now.rows.items }
+    requires test { chosen.split.test ≡ least_test_of (problem_of inst.now) graph.now.rows.items (members (group_at graph.now.rows.items place)) }
+    requires sum { chosen.sum ≡ step_sum (problem_of inst.now) (known_low (problem_of inst.now) (rows_from graph.now.rows.items)) (members (group_at graph.now.rows.items place)) chosen.split.test }
+    requires evaluated { Contains (splits_at graph.now.nodes.items place) chosen.split }
+    ensures low { result.low ≡ most_low (problem_of inst.now) (rows_from graph.now.rows.items) (members (group_at graph.now.rows.items place)) }
+    ensures up { result.up ≡ evaluated_up (problem_of inst.now) graph.now.rows.items graph.now.nodes.items place }
+    ensures allowed { Allow (problem_of inst.now) graph.now.rows.items (members (group_at graph.now.rows.items place)) result.low result.up }
+    ensures right { AreBounds (problem_of inst.now) (members (group_at graph.now.rows.items place)) result.low result.up }
+    ensures closes { ClosesBelow (problem_of inst.now) graph.now.rows.items (members (group_at graph.now.rows.items place)) → result.up ≤ result.low }
+{
+    let low = graph.nodes[place].bound.max(chosen.sum);
+    let up = least_up(inst, graph, place);
+    Bounds { low, up }
+}
+
+/// What the tests of a group allow for its bounds. No row changes: `hear` tells the row. Where both parts by
+/// the test of least sum are closed, these bounds close the group.
+pub fn backed_up(inst: &Instance, graph: &mut Graph, place: usize) -> Result<Bounds, AllocError>
+    requires known { IsKnown (problem_of inst.now) graph.old }
+    requires place { place < length graph.old.rows.items }
+    ensures known { IfOk result (λ _. IsKnown (problem_of inst.now) graph.new) }
+    ensures rows { IfOk result (λ _. graph.new.rows.items ≡ graph.old.rows.items) }
+
+    // The low is all that the rows allow. The up is one that they allow: the tests that wait are not asked.
+    ensures low { IfOk result (λ b. b.low ≡ most_low (problem_of inst.now) (rows_from graph.old.rows.items) (members (group_at graph.old.rows.items place))) }
+    ensures allowed { IfOk result (λ b. Allow (problem_of inst.now) graph.old.rows.items (members (group_at graph.old.rows.items place)) b.low b.up) }
+    ensures right { IfOk result (λ b. AreBounds (problem_of inst.now) (members (group_at graph.old.rows.items place)) b.low b.up) }
+    ensures closes { IfOk result (λ b. ClosesBelow (problem_of inst.now) graph.old.rows.items (members (group_at graph.old.rows.items place)) → b.up ≤ b.low) }
+{
+    let chosen = least_test(inst, graph, place)?;
+    Ok(bounds_by(inst, graph, place, chosen))
+}
