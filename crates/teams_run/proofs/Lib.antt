@@ -14,3 +14,4 @@ pub mod OneJudgement
 pub mod OneAnswer
 pub mod OneAccepted
 pub mod BadLaws
+pub mod OneReasoned

@@ -332,6 +332,7 @@ fn checked(alloc: Global, text: &str, cert: &str) -> Result<(Status, Vec<u8>), A
         workers: 0,
         groups: 4000,
         mode: None,
+        log: None,
     };
     let status = run_quiet(alloc, &plan, &mut shelf, &mut sink);
     let wrote = Vec::from_slice(alloc, sink.wrote())?;
