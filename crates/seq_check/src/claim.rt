@@ -4,13 +4,13 @@
 //! look-up; so where neither part of a test is listed, an estimate of the sum that takes no bound comes
 //! first, and where it is as much as the line claims, it is enough.
 ghost use Rattle.std.specs.Prelude.{◌≡◌, ◌<◌, List, true, cond, nat_le, unwrap_or, vec_len};
-ghost use Rattle.seq_theory.specs.Problem.{IsWithin, is_end, splits as is_split, weight_of as weight_sum};
+ghost use Rattle.seq_theory.specs.Problem.{is_end, splits as is_split, weight_of as weight_sum};
 ghost use Rattle.seq_theory.specs.Bound.{bound as bound_of, step_sum};
 ghost use Rattle.seq_theory.specs.Claims.{claim_of, claimed};
 ghost use Rattle.seq_inst.specs.Members.{members};
-ghost use Rattle.seq_inst.specs.Instances.{problem_of};
-ghost use Rattle.seq_huff.specs.Orders.{IsOrderOf};
-ghost use Rattle.seq_huff.specs.Estimates.{IsEstimateOf};
+ghost use Rattle.seq_inst.specs.Instances.{problem_of, IsGroupOf};
+ghost use Rattle.seq_huff.specs.Orders.{IsOrderFor};
+ghost use Rattle.seq_huff.specs.Estimates.{IsEstimateFor};
 ghost use Rattle.seq_cert.specs.declared.report.GroupLine.{GroupLine as Line};
 ghost use Rattle.seq_check.specs.GroupLooks.{claims_of, most_claimed};
 ghost use Rattle.seq_check.specs.Listed.{AreLows};
@@ -39,8 +39,8 @@ fn counted(
     group: &Group,
     listed: Option<u64>,
 ) -> u64
-    requires order { IsOrderOf (problem_of inst.now) order.now }
-    requires within { IsWithin (problem_of inst.now) (members group.now) }
+    requires order { IsOrderFor inst.now order.now }
+    requires within { IsGroupOf inst.now group.now }
     ensures { result ≡ cond (is_end (problem_of inst.now) (members group.now)) 0 (unwrap_or listed (bound_of (problem_of inst.now) (members group.now))) }
 {
     if is_leaf(inst, group) {
@@ -64,9 +64,9 @@ fn is_reached(
     test: u32,
     low: u64,
 ) -> bool
-    requires order { IsOrderOf (problem_of inst.now) order.now }
-    requires within { IsWithin (problem_of inst.now) (members group.now) }
-    requires estimate { IsEstimateOf (problem_of inst.now) (members group.now) estimate.now }
+    requires order { IsOrderFor inst.now order.now }
+    requires within { IsGroupOf inst.now group.now }
+    requires estimate { IsEstimateFor inst.now group.now estimate.now }
     requires weight { weight ≡ weight_sum (problem_of inst.now) (members group.now) }
     requires there { test < vec_len inst.now.costs }
     requires splits { is_split (problem_of inst.now) (members group.now) test ≡ true }
@@ -95,8 +95,8 @@ pub fn is_allowed(
     lows: &Lows,
     line: &GroupLine,
 ) -> bool
-    requires order { IsOrderOf (problem_of inst.now) order.now }
-    requires within { IsWithin (problem_of inst.now) (members line.now.group) }
+    requires order { IsOrderFor inst.now order.now }
+    requires within { IsGroupOf inst.now line.now.group }
     ensures { (lines : List Line) → AreLows lows.now lines → result ≡ nat_le line.now.low (most_claimed (problem_of inst.now) (claims_of lines) (members line.now.group)) }
 {
     let group = &line.group;

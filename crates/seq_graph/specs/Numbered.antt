@@ -7,6 +7,8 @@ use Rattle.seq_theory.specs.Rows.{AreDistinct}
 use Rattle.seq_graph.specs.declared.greedy.Greedy.{Greedy}
 use Rattle.seq_graph.specs.declared.memo.BoundMemo.{BoundMemo}
 use Rattle.seq_graph.specs.Memos.{IsMemoOf}
+use Rattle.seq_inst.specs.declared.instance.Instance.{Instance}
+use Rattle.seq_inst.specs.Instances.{problem_of}
 
 -- what bounds are worked out by, and remembered in; the groups, as lists of classes, by number; their bounds; greedy's test and cost
 -- over each, where these were worked out; and for how many more groups there is room
@@ -48,3 +50,7 @@ pub record AreNumbers (p : Problem) (v : Numbered) : Type 0 where
 -- each group that had a number has it still
 abbrev pub KeepsNumbers : Numbered → Numbered → Type 0
 KeepsNumbers old new = (group : List ℕ) (n : ℕ) → HasNumber old group n → HasNumber new group n
+
+-- what is kept of groups by number is that of this instance
+abbrev pub AreNumbersFor : Instance → Numbered → Type 0
+AreNumbersFor inst v = AreNumbers (problem_of inst) v

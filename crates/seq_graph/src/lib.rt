@@ -34,7 +34,7 @@ mod tests;
 mod waiting;
 
 pub use bounds::{Bounds, backed_up};
-pub use events::{back_up, enter, hear};
+pub use events::{add, back_up, enter, hear};
 pub use graph::{Count, Graph};
 pub use laws::turns_move;
 pub use node::{Node, Split, Waiting};

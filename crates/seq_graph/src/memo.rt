@@ -4,10 +4,9 @@
 //! until a bound of another group takes the slot; a bound that fell out is worked out again. This is a cache
 //! that is mapped directly, as of a processor: no list of groups grows by it.
 ghost use Rattle.std.specs.Prelude.{◌≡◌, ◌<◌, ◌≤◌, vec_len, IfOk};
-ghost use Rattle.seq_theory.specs.Problem.{IsWithin};
 ghost use Rattle.seq_theory.specs.Bound.{bound as bound_by};
 ghost use Rattle.seq_huff.specs.Bounds.{greatest_cost};
-ghost use Rattle.seq_inst.specs.Instances.{problem_of};
+ghost use Rattle.seq_inst.specs.Instances.{problem_of, IsGroupOf};
 ghost use Rattle.seq_inst.specs.Members.{members};
 ghost use Rattle.seq_graph.specs.Memos.{IsMemoOf};
 
@@ -80,7 +79,7 @@ impl BoundMemo {
     /// The bound of the group: the one that is remembered, or worked out and remembered from now on.
     pub(crate) fn bound_of(&mut self, inst: &Instance, group: &Group) -> u64
         requires memo { IsMemoOf (problem_of inst.now) self.old }
-        requires within { IsWithin (problem_of inst.now) (members group.now) }
+        requires within { IsGroupOf inst.now group.now }
         ensures memo { IsMemoOf (problem_of inst.now) self.new }
         ensures value { result ≡ bound_by (problem_of inst.now) (members group.now) }
         ensures fits { result ≤ greatest_cost }

@@ -8,14 +8,14 @@
 //! that room lasts. A group that is met later has none, and what is asked of it is worked out afresh, each
 //! time; so a lack of room costs time and changes no answer.
 ghost use Rattle.std.specs.Prelude.{◌≡◌, ◌+◌, ◌-◌, ◌++◌, ◌∷◌, [], ◌<◌, ◌≤◌, false, true, max, length, slice_get, slice_set, IsOk, IfOk, OnOk, OnErr, IfSome, IfNone, Some, None};
-ghost use Rattle.seq_theory.specs.Problem.{Problem, IsWithin, is_end};
+ghost use Rattle.seq_theory.specs.Problem.{Problem, is_end};
 ghost use Rattle.seq_theory.specs.Bound.{bound as bound_by};
 ghost use Rattle.seq_theory.specs.Graph.{is_entered};
 ghost use Rattle.seq_huff.specs.Bounds.{greatest_cost};
-ghost use Rattle.seq_inst.specs.Instances.{problem_of};
+ghost use Rattle.seq_inst.specs.Instances.{problem_of, IsGroupOf};
 ghost use Rattle.seq_inst.specs.Members.{members};
-ghost use Rattle.seq_graph.specs.GreedyChoice.{AreEstimates};
-ghost use Rattle.seq_graph.specs.Numbered.{capacity, HasNumber, HasGreedy, IsGreedyOf, AreNumbers, KeepsNumbers};
+ghost use Rattle.seq_graph.specs.GreedyChoice.{AreEstimatesFor};
+ghost use Rattle.seq_graph.specs.Numbered.{capacity, HasNumber, HasGreedy, IsGreedyOf, AreNumbers, KeepsNumbers, AreNumbersFor};
 
 use crate::greedy::{Estimates, Greedy, estimates_of};
 use crate::memo::BoundMemo;
@@ -41,7 +41,7 @@ impl Model for Numbers {
     ghost use Rattle.std.specs.Prelude.{◌≡◌, ◌+◌, ◌^◌, ◌<◌, ◌≤◌, length, map, vec_capacity};
     ghost use Rattle.indexmap.specs.IndexMap.{keys, values, spare};
     ghost use Rattle.seq_core.specs.Words.{AreWords, classes_of};
-    ghost use Rattle.seq_graph.specs.Numbered.{Numbered};
+    ghost use Rattle.seq_graph.specs.Numbered.{Numbered, AreNumbersFor};
 
     ghost Value = { Numbered };
 
@@ -59,7 +59,7 @@ impl Model for Numbers {
 impl Numbers {
     /// No numbers yet, and no room.
     pub fn new(alloc: Global, inst: &Instance) -> Result<Numbers, AllocError>
-        ensures numbers { IfOk result (AreNumbers (problem_of inst.now)) }
+        ensures numbers { IfOk result (AreNumbersFor inst.now) }
         ensures none { IfOk result (λ v. v.groups ≡ []) }
     {
         let memo = BoundMemo::new(alloc, inst)?;
@@ -125,10 +125,10 @@ impl Numbers {
 
     /// Keeps greedy's test and cost over the group, where it has a number or there is room for one.
     pub(crate) fn keep_greedy(&mut self, inst: &Instance, group: &Group, greedy: Greedy)
-        requires numbers { AreNumbers (problem_of inst.now) self.old }
-        requires within { IsWithin (problem_of inst.now) (members group.now) }
+        requires numbers { AreNumbersFor inst.now self.old }
+        requires within { IsGroupOf inst.now group.now }
         requires greedy { IsGreedyOf (problem_of inst.now) (members group.now) greedy }
-        ensures numbers { AreNumbers (problem_of inst.now) self.new }
+        ensures numbers { AreNumbersFor inst.now self.new }
         ensures keeps { KeepsNumbers self.old self.new }
         ensures capacity { capacity self.new ≡ capacity self.old }
     {
@@ -188,11 +188,11 @@ impl Numbers {
 
     /// Gives the group, which has no number, the next one, with its bound.
     fn next_number(&mut self, inst: &Instance, group: &Group) -> u32
-        requires numbers { AreNumbers (problem_of inst.now) self.old }
-        requires within { IsWithin (problem_of inst.now) (members group.now) }
+        requires numbers { AreNumbersFor inst.now self.old }
+        requires within { IsGroupOf inst.now group.now }
         requires absent { is_entered self.old.groups (members group.now) ≡ false }
         requires room { 0 < self.old.room }
-        ensures numbers { AreNumbers (problem_of inst.now) self.new }
+        ensures numbers { AreNumbersFor inst.now self.new }
         ensures keeps { KeepsNumbers self.old self.new }
         ensures number { HasNumber self.new (members group.now) result }
         ensures capacity { capacity self.new ≡ capacity self.old }
@@ -205,9 +205,9 @@ impl Numbers {
     /// The number of the group. One that has none gets the next one, with its bound. It takes memory only
     /// where the group has no number and no room is left.
     pub fn number_of(&mut self, inst: &Instance, group: &Group) -> Result<u32, AllocError>
-        requires numbers { AreNumbers (problem_of inst.now) self.old }
-        requires within { IsWithin (problem_of inst.now) (members group.now) }
-        ensures numbers { AreNumbers (problem_of inst.now) self.new }
+        requires numbers { AreNumbersFor inst.now self.old }
+        requires within { IsGroupOf inst.now group.now }
+        ensures numbers { AreNumbersFor inst.now self.new }
         ensures keeps { KeepsNumbers self.old self.new }
         ensures number { IfOk result (HasNumber self.new (members group.now)) }
 
@@ -228,9 +228,9 @@ impl Numbers {
     /// The number of the group. One that has none gets the next one, with its bound, while there is room.
     /// It takes no memory.
     pub fn number_within(&mut self, inst: &Instance, group: &Group) -> Option<u32>
-        requires numbers { AreNumbers (problem_of inst.now) self.old }
-        requires within { IsWithin (problem_of inst.now) (members group.now) }
-        ensures numbers { AreNumbers (problem_of inst.now) self.new }
+        requires numbers { AreNumbersFor inst.now self.old }
+        requires within { IsGroupOf inst.now group.now }
+        ensures numbers { AreNumbersFor inst.now self.new }
         ensures keeps { KeepsNumbers self.old self.new }
 
         // None comes only where the group has no number and no room is left.
@@ -253,9 +253,9 @@ impl Numbers {
 
     /// The bound of the group, by the memo. No number changes.
     fn memo_bound(&mut self, inst: &Instance, group: &Group) -> u64
-        requires numbers { AreNumbers (problem_of inst.now) self.old }
-        requires within { IsWithin (problem_of inst.now) (members group.now) }
-        ensures numbers { AreNumbers (problem_of inst.now) self.new }
+        requires numbers { AreNumbersFor inst.now self.old }
+        requires within { IsGroupOf inst.now group.now }
+        ensures numbers { AreNumbersFor inst.now self.new }
         ensures same { self.new ≡ record self.old { memo = self.new.memo } }
         ensures value { result ≡ bound_by (problem_of inst.now) (members group.now) }
         ensures fits { result ≤ greatest_cost }
@@ -265,19 +265,19 @@ impl Numbers {
 
     /// The estimates of the tests that split the group, which has two goals or more.
     pub(crate) fn estimates(&self, inst: &Instance, group: &Group) -> Estimates
-        requires numbers { AreNumbers (problem_of inst.now) self.now }
-        requires within { IsWithin (problem_of inst.now) (members group.now) }
+        requires numbers { AreNumbersFor inst.now self.now }
+        requires within { IsGroupOf inst.now group.now }
         requires more { is_end (problem_of inst.now) (members group.now) ≡ false }
-        ensures { AreEstimates (problem_of inst.now) (members group.now) result }
+        ensures { AreEstimatesFor inst.now group.now result }
     {
         estimates_of(&self.memo.order, inst, group)
     }
 
     /// The bound of the group: what is kept where it has a number, else by the memo. It gets no number.
     pub(crate) fn bound_within(&mut self, inst: &Instance, group: &Group) -> u64
-        requires numbers { AreNumbers (problem_of inst.now) self.old }
-        requires within { IsWithin (problem_of inst.now) (members group.now) }
-        ensures numbers { AreNumbers (problem_of inst.now) self.new }
+        requires numbers { AreNumbersFor inst.now self.old }
+        requires within { IsGroupOf inst.now group.now }
+        ensures numbers { AreNumbersFor inst.now self.new }
         ensures keeps { KeepsNumbers self.old self.new }
         ensures capacity { capacity self.new ≡ capacity self.old }
         ensures value { result ≡ bound_by (problem_of inst.now) (members group.now) }
