@@ -15,3 +15,4 @@ pub mod OneAnswer
 pub mod OneAccepted
 pub mod BadLaws
 pub mod OneReasoned
+pub mod ReasonLaws

@@ -76,6 +76,7 @@ fn bad_log_due(
 }
 
 /// What is due where no set of faults explains what was found.
+#[tactic(auto, using(crate::proofs::ReasonLaws::conflict_there))]
 fn conflict_due(
     alloc: Global,
     matrix: &Matrix,
