@@ -15,6 +15,7 @@ ghost use Rattle.seq_graph.specs.Known.{IsGraphOf};
 ghost use Rattle.seq_finish.specs.Outcomes.{AreEntered, IsRightOutcome};
 ghost use Rattle.seq_finish.specs.Laws.{Stands};
 
+use crate::laws::outcomes_hold;
 use crate::places::{bounds_of, index_of};
 use crate::strategy::strategy_of;
 use seq_graph::{Graph, Numbers, settle};
@@ -124,6 +125,7 @@ fn finish_settled(
 {
     let places = index_of(alloc, rows.as_slice())?;
     let all = root(inst);
+    outcomes_hold();
     let strategy = strategy_of(alloc, inst, &mut numbers, rows.as_slice(), &places, &all)?;
     let bounds = bounds_of(inst, rows.as_slice(), &places, &all);
     let verdict = verdict_of(bounds.low, bounds.cost);

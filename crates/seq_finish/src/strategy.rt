@@ -17,9 +17,7 @@ ghost use Rattle.seq_finish.specs.Outcomes.{IsSettled};
 use crate::places::value_of;
 use seq_core::Places;
 use seq_graph::Numbers;
-use seq_inst::{
-    Answer, Group, Instance, Row, Strategy, ask_first, is_leaf, part, splits, weight_of,
-};
+use seq_inst::{Group, Instance, Row, Strategy, ask_first, is_leaf, parts_of, splits, weight_of};
 use std::alloc::{AllocError, Global};
 
 /// Whether the test, and the values of its parts, cost this together. A part without a value reaches
@@ -40,11 +38,10 @@ fn reaches(
     requires weight { weight ≡ weight_sum (problem_of inst.now) (members group.now) }
     ensures { result ≡ is_value (step_value (problem_of inst.now) (val (problem_of inst.now) (groups_in rows.now)) (members group.now) test) (Some value) }
 {
-    let pass_part = part(inst, group, test, Answer::Pass);
-    let fail_part = part(inst, group, test, Answer::Fail);
+    let parts = parts_of(inst, group, test);
     match (
-        value_of(inst, rows, places, &pass_part),
-        value_of(inst, rows, places, &fail_part),
+        value_of(inst, rows, places, &parts.pass),
+        value_of(inst, rows, places, &parts.fail),
     ) {
         (Some(pass), Some(fail)) => {
             u64::from(inst.costs[test as usize]) * weight + (pass + fail) == value
@@ -101,9 +98,8 @@ pub(crate) fn strategy_of(
         return numbers.greedy_tree(alloc, inst, group);
     }
     let test = value_test(inst, rows, places, group, value);
-    let pass_part = part(inst, group, test, Answer::Pass);
-    let pass = strategy_of(alloc, inst, numbers, rows, places, &pass_part)?;
-    let fail_part = part(inst, group, test, Answer::Fail);
-    let fail = strategy_of(alloc, inst, numbers, rows, places, &fail_part)?;
+    let parts = parts_of(inst, group, test);
+    let pass = strategy_of(alloc, inst, numbers, rows, places, &parts.pass)?;
+    let fail = strategy_of(alloc, inst, numbers, rows, places, &parts.fail)?;
     ask_first(alloc, test, pass, fail)
 }

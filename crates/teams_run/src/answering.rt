@@ -170,7 +170,6 @@ pub fn answer_for(alloc: Global, plan: &Plan, content: &[u8]) -> Result<Due, Mod
 }
 
 /// The matrix of the text with its instance, against which a certificate is checked.
-#[tactic(auto, using(crate::proofs::UnfitLaws::unchecked))]
 pub fn prepared_for(
     alloc: Global,
     plan: &Plan,
