@@ -7,3 +7,4 @@ pub mod FindingLaws
 pub mod LabelLaws
 pub mod LogLaws
 pub mod TextLaws
+pub mod OneReasoning

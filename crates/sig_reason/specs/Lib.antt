@@ -7,3 +7,4 @@ pub mod Rules
 pub mod Log
 pub mod LogSteps
 pub mod ReasonText
+pub mod Laws

@@ -10,6 +10,7 @@
 mod causes;
 mod found;
 mod labelling;
+mod laws;
 mod log;
 mod log_line;
 mod rows;
@@ -18,6 +19,7 @@ mod text;
 
 pub use found::{Finding, Label, Labelled, ReasonFault};
 pub use labelling::label_of;
+pub use laws::one_reasoning;
 pub use log::{BadLogLine, LogFault, read_log};
 pub use log_line::LogCode;
 pub use text::reason_text;

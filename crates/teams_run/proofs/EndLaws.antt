@@ -5,9 +5,9 @@ use Rattle.sig_edge.specs.Shelf.{Holds}
 use Rattle.sig_edge.specs.Sink.{Appends}
 use Rattle.teams_words.specs.declared.plan.Plan.{Plan}
 use Rattle.teams_words.specs.declared.plan.Action.{Action}
-use Rattle.teams_words.specs.declared.plan.Action.TheVariants.{Solve, Check, Matrix, Figures, Sample}
+use Rattle.teams_words.specs.declared.plan.Action.TheVariants.{Solve, Check, Matrix, Figures, Sample, Reason}
 use Rattle.teams_run.specs.declared.status.Status.{Status}
-use Rattle.teams_run.specs.declared.status.Status.TheVariants.{Done, ModelRefused, Usage, Bounded, ReadFault, WriteFault, NoMemory, Rejected, Missing, TooLong}
+use Rattle.teams_run.specs.declared.status.Status.TheVariants.{Done, ModelRefused, Usage, Bounded, ReadFault, WriteFault, NoMemory, Rejected, Missing, TooLong, Conflict}
 use Rattle.teams_run.specs.Texts.{IsDue}
 use Rattle.teams_run.specs.Runs.{Moment, EndsAs, EndsFor, IsDueFor, IsDueOfChain, IsDueOfFile, IsDueText, IsSilent, WantsModel}
 
@@ -17,6 +17,7 @@ HasText Done = ⊤
 HasText Bounded = ⊤
 HasText Rejected = ⊤
 HasText ModelRefused = ⊤
+HasText Conflict = ⊤
 HasText other = ⊥
 
 of_file : (plan : Plan) (holds : Holds) (content text : List ℕ) (status : Status) → IsDue plan holds content status text → HasText status
@@ -24,6 +25,7 @@ of_file plan holds content text Done d = tt
 of_file plan holds content text Bounded d = tt
 of_file plan holds content text Rejected d = tt
 of_file plan holds content text ModelRefused d = tt
+of_file plan holds content text Conflict d = tt
 of_file plan holds content text Usage d = absurd d
 of_file plan holds content text ReadFault d = absurd d
 of_file plan holds content text WriteFault d = absurd d
@@ -36,6 +38,7 @@ of_chain plan text Done d = tt
 of_chain plan text Bounded d = tt
 of_chain plan text Rejected d = absurd d
 of_chain plan text ModelRefused d = absurd d
+of_chain plan text Conflict d = absurd d
 of_chain plan text Usage d = absurd d
 of_chain plan text ReadFault d = absurd d
 of_chain plan text WriteFault d = absurd d
@@ -49,6 +52,7 @@ has_text Solve plan holds text status d = of_file plan holds d.content text stat
 has_text Check plan holds text status d = of_file plan holds d.content text status d.due
 has_text Matrix plan holds text status d = of_file plan holds d.content text status d.due
 has_text Figures plan holds text status d = of_file plan holds d.content text status d.due
+has_text Reason plan holds text status d = of_file plan holds d.content text status d.due
 
 -- a text that is due was written whole
 pub writes : (plan : Plan) (before after : Moment) (status : Status) (text : List ℕ) → IsDueText plan before.holds status text → Appends before.wrote after.wrote text → EndsAs plan before after status
@@ -56,6 +60,7 @@ writes plan before after Done text due written = record { text = text; due = due
 writes plan before after Bounded text due written = record { text = text; due = due; written = written }
 writes plan before after Rejected text due written = record { text = text; due = due; written = written }
 writes plan before after ModelRefused text due written = record { text = text; due = due; written = written }
+writes plan before after Conflict text due written = record { text = text; due = due; written = written }
 writes plan before after Usage text due written = absurd (has_text plan.action plan before.holds text Usage due)
 writes plan before after ReadFault text due written = absurd (has_text plan.action plan before.holds text ReadFault due)
 writes plan before after WriteFault text due written = absurd (has_text plan.action plan before.holds text WriteFault due)
@@ -83,6 +88,7 @@ text_of_file plan holds status text wanted due = go plan.action wanted
     go Check not_sample = due
     go Matrix not_sample = due
     go Figures not_sample = due
+    go Reason not_sample = due
     go Sample not_sample = absurd (not_sample refl)
 
 pub text_of_chain : (plan : Plan) (holds : Holds) (status : Status) (text : List ℕ) → plan.action ≡ Sample → IsDueOfChain plan status text → IsDueText plan holds status text

@@ -14,3 +14,5 @@ pub mod OneJudgement
 pub mod OneAnswer
 pub mod OneAccepted
 pub mod BadLaws
+pub mod OneReasoned
+pub mod ReasonLaws

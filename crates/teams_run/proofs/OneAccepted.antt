@@ -1,6 +1,6 @@
 -- What `solve` wrote is accepted: the report of a right outcome is read back from its text, no line of it is bad, and what it
 -- shows of the ambiguity groups holds of the states.
-use Rattle.std.proofs.Common.{◌≡◌, ℕ, ◌≤◌, List, Option, length, refl, sym, subst, inr}
+use Rattle.std.proofs.Common.{◌≡◌, ℕ, ◌≤◌, List, Option, length, refl, sym, subst, inl, inr}
 use Rattle.sig_edge.specs.Shelf.{Holds, HoldsWhole}
 use Rattle.sig_matrix.specs.declared.matrix.Matrix.{Matrix}
 use Rattle.sig_matrix.specs.Detection.{system_of}
@@ -53,7 +53,7 @@ module _ (passage : PassageHolds) where
       let of_solve = subst (λ (action : Action). IsTextFor action solve a.flat a.matrix status text) is_solve a.text_is in
       let accepted = answer-accepted solve a.flat a.matrix status text of_solve in (
         accepted.0,
-        inr (record {
+        inr (inl (record {
           action = is_check;
           flat = a.flat;
           matrix = a.matrix;
@@ -62,5 +62,5 @@ module _ (passage : PassageHolds) where
           held = held;
           within = within;
           judged = subst (λ (m : Option (List ℕ)). IsAccepted (system_of a.matrix) (labels_from a.matrix (mode_word m)) text accepted.0) (sym mode) accepted.1;
-        }),
+        })),
       )

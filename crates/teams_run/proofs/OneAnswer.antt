@@ -1,4 +1,4 @@
--- One answer is due. What is due is an answer of the model alone, a judgement on a certificate, or a refusal; two of one kind
+-- One answer is due. What is due is an answer of the model alone, a judgement on a certificate, reasoning over a log, or a refusal; two of one kind
 -- are one, since the bytes have one system, and two of different kinds can't both be due.
 use Rattle.std.proofs.Common.{◌≡◌, ◌∙◌, ℕ, ◌≤◌, List, [], length, refl, sym, ap, subst, arith, inl, inr}
 use Rattle.std.specs.Prelude.{⊤, ◌⊎◌, Bool, true, false, nat_lt, Option, Some, None, slice_get}
@@ -26,17 +26,20 @@ use Rattle.seq_cert.specs.BothWays.{HasNoBad, HasOneFirst, IsOne}
 use Rattle.seq_cert.specs.OutcomeReport.{report_from}
 use Rattle.teams_words.specs.declared.plan.Plan.{Plan}
 use Rattle.teams_words.specs.declared.plan.Action.{Action}
-use Rattle.teams_words.specs.declared.plan.Action.TheVariants.{Solve, Check, Matrix as MatrixAction, Figures as FiguresAction, Sample}
+use Rattle.teams_words.specs.declared.plan.Action.TheVariants.{Solve, Check, Matrix as MatrixAction, Figures as FiguresAction, Sample, Reason}
 use Rattle.teams_run.specs.declared.status.Status.{Status}
-use Rattle.teams_run.specs.declared.status.Status.TheVariants.{Done, Bounded, ModelRefused, Rejected}
+use Rattle.teams_run.specs.declared.status.Status.TheVariants.{Done, Bounded, ModelRefused, Rejected, Conflict}
 use Rattle.teams_run.specs.Accepted.{IsMatrixOfText, mode_number, refusals}
 use Rattle.teams_run.specs.Judged.{IsJudgement}
+use Rattle.teams_run.specs.Reasoned.{IsReasoning}
+use Rattle.sig_reason.specs.Laws.{HasOneReasoning}
 use Rattle.teams_run.specs.Solved.{IsSolution, class_refusals}
-use Rattle.teams_run.specs.Texts.{IsAnswer, IsChecked, IsDue, IsFaultOfBytes, IsFaultOfSystem, IsFiguresText, IsRefused, IsTextFor, cert_name, fit_refusals, mode_word}
+use Rattle.teams_run.specs.Texts.{IsAnswer, IsChecked, IsDue, IsFaultOfBytes, IsFaultOfSystem, IsFiguresText, IsReasoned, IsRefused, IsTextFor, cert_name, fit_refusals, log_name, mode_word}
 use Rattle.teams_run.specs.RefusalText.{refusal_line}
 use Rattle.teams_run.specs.Exact.{AreOne, AreReports, HasOneAnswer, HasOneSystem, IsSearched}
 use Rattle.teams_run.proofs.OneFigures.{one-figures}
 use Rattle.teams_run.proofs.OneJudgement.{one-judgement}
+use Rattle.teams_run.proofs.OneReasoned.{one-reasoned}
 
 -- a system of few ambiguity groups is refused by no action
 few-classes : (sys : System) → length (firsts sys) ≤ 512 → class_refusals sys ≡ []
@@ -60,16 +63,19 @@ judged-fit action sys labels cert Done text j = few-fit action sys j.few
 judged-fit action sys labels cert Rejected text j = few-fit action sys j.few
 judged-fit action sys labels cert status text j = absurd j
 
--- what is due is of one of three kinds
+-- what is due is of one of four kinds
 abbrev IsOfKind : Plan → Holds → List ℕ → Status → List ℕ → Type 0
-IsOfKind plan holds content status text = IsAnswer plan content status text ⊎ (IsChecked plan holds content status text ⊎ ((status ≡ ModelRefused) × IsRefused plan content text))
+IsOfKind plan holds content status text = IsAnswer plan content status text ⊎ (IsChecked plan holds content status text ⊎ (IsReasoned plan holds content status text ⊎ ((status ≡ ModelRefused) × IsRefused plan content text)))
 
 kind : (plan : Plan) (holds : Holds) (content : List ℕ) (status : Status) (text : List ℕ) → IsDue plan holds content status text → IsOfKind plan holds content status text
 kind plan holds content Done text (inl answer) = inl answer
-kind plan holds content Done text (inr checked) = inr (inl checked)
+kind plan holds content Done text (inr (inl checked)) = inr (inl checked)
+kind plan holds content Done text (inr (inr reasoned)) = inr (inr (inl reasoned))
 kind plan holds content Bounded text answer = inl answer
-kind plan holds content Rejected text checked = inr (inl checked)
-kind plan holds content ModelRefused text refused = inr (inr (refl, refused))
+kind plan holds content Rejected text (inl checked) = inr (inl checked)
+kind plan holds content Rejected text (inr reasoned) = inr (inr (inl reasoned))
+kind plan holds content Conflict text reasoned = inr (inr (inl reasoned))
+kind plan holds content ModelRefused text refused = inr (inr (inr (refl, refused)))
 kind plan holds content status text due = absurd due
 
 -- the first of no refusals is none
@@ -110,7 +116,16 @@ module _ (system : HasOneSystem) (plan : Plan) (content : List ℕ) where
   never-checked holds text refusal status c r =
       not-refused r.refusal c.flat c.matrix c.of_text (judged-fit plan.action (system_of c.matrix) (labels_from c.matrix (mode_word plan.mode)) c.cert status text c.judged) r.refused
 
--- `check` writes nothing of the model alone
+  never-reasoned : (holds : Holds) (text refusal : List ℕ) (status : Status) → IsReasoned plan holds content status text → IsRefused plan content refusal → ⊥
+  never-reasoned holds text refusal status c r = not-refused r.refusal c.flat c.matrix c.of_text (subst (λ (action : Action). fit_refusals action (system_of c.matrix) ≡ []) (sym c.action) refl) r.refused
+
+-- `check` and `reason` write nothing of the model alone, and are two actions
+alone-not-reasoned : (plan : Plan) (holds : Holds) (content text another : List ℕ) (status other : Status) → IsAnswer plan content status text → IsReasoned plan holds content other another → ⊥
+alone-not-reasoned plan holds content text another status other a c = subst (λ (action : Action). IsTextFor action plan a.flat a.matrix status text) c.action a.text_is
+
+checked-not-reasoned : (plan : Plan) (holds : Holds) (content text another : List ℕ) (status other : Status) → IsChecked plan holds content status text → IsReasoned plan holds content other another → ⊥
+checked-not-reasoned plan holds content text another status other a c = let clash : Check ≡ Reason = sym a.action ∙ c.action in let bad : ⊥ = cc in bad
+
 alone-not-checked : (plan : Plan) (holds : Holds) (content text another : List ℕ) (status other : Status) → IsAnswer plan content status text → IsChecked plan holds content other another → ⊥
 alone-not-checked plan holds content text another status other a c = subst (λ (action : Action). IsTextFor action plan a.flat a.matrix status text) c.action a.text_is
 
@@ -181,7 +196,7 @@ texts-one one FiguresAction plan flat matrix status other text another is a b =
     inl (first.0 ∙ sym second.0, first.1.text_is ∙ same ∙ sym second.1.text_is)
 texts-one one action plan flat matrix status other text another is a b = absurd a
 
-module _ (system : HasOneSystem) (no_bad : HasNoBad) (first : HasOneFirst) (one : IsOne) (plan : Plan) (held : List ℕ → Option (List ℕ)) (content text another : List ℕ) (status other : Status) where
+module _ (system : HasOneSystem) (no_bad : HasNoBad) (first : HasOneFirst) (one : IsOne) (reasoning : HasOneReasoning) (plan : Plan) (held : List ℕ → Option (List ℕ)) (content text another : List ℕ) (status other : Status) where
   answers-one : IsAnswer plan content status text → IsAnswer plan content other another → AreOne plan status other text another
   answers-one a b =
       let same = system content plan.mode b.flat a.flat b.matrix a.matrix b.of_text a.of_text in
@@ -200,17 +215,35 @@ module _ (system : HasOneSystem) (no_bad : HasNoBad) (first : HasOneFirst) (one 
       cert-one : (x y : List ℕ) (o : Option (List ℕ)) → o ≡ Some x → o ≡ Some y → x ≡ y
       cert-one x y o e f = cc
 
+  reasoned-one : IsReasoned plan (Some held) content status text → IsReasoned plan (Some held) content other another → (status ≡ other) × (text ≡ another)
+  reasoned-one a b =
+      let matrix = same-matrix system plan content b.flat a.flat b.matrix a.matrix b.of_text a.of_text in
+      let log : b.log ≡ a.log = log-one b.log a.log (held (log_name plan)) b.held a.held in
+      let of_matrix = subst (λ (m : Matrix). IsReasoning m (mode_word plan.mode) b.log other another) matrix b.reasoning in
+      let of_log = subst (λ (l : List ℕ). IsReasoning a.matrix (mode_word plan.mode) l other another) log of_matrix in
+      one-reasoned reasoning a.matrix (mode_word plan.mode) a.log status other text another a.reasoning of_log
+    where
+      log-one : (x y : List ℕ) (o : Option (List ℕ)) → o ≡ Some x → o ≡ Some y → x ≡ y
+      log-one x y o e f = cc
+
   kinds-one : IsOfKind plan (Some held) content status text → IsOfKind plan (Some held) content other another → AreOne plan status other text another
   kinds-one (inl a) (inl b) = answers-one a b
   kinds-one (inl a) (inr (inl b)) = absurd (alone-not-checked plan (Some held) content text another status other a b)
-  kinds-one (inl a) (inr (inr b)) = absurd (never-answered system plan content text another status a b.1)
+  kinds-one (inl a) (inr (inr (inl b))) = absurd (alone-not-reasoned plan (Some held) content text another status other a b)
+  kinds-one (inl a) (inr (inr (inr b))) = absurd (never-answered system plan content text another status a b.1)
   kinds-one (inr (inl a)) (inl b) = absurd (alone-not-checked plan (Some held) content another text other status b a)
   kinds-one (inr (inl a)) (inr (inl b)) = inl (checked-one a b)
-  kinds-one (inr (inl a)) (inr (inr b)) = absurd (never-checked system plan content (Some held) text another status a b.1)
-  kinds-one (inr (inr a)) (inl b) = absurd (never-answered system plan content another text other b a.1)
-  kinds-one (inr (inr a)) (inr (inl b)) = absurd (never-checked system plan content (Some held) another text other b a.1)
-  kinds-one (inr (inr a)) (inr (inr b)) = inl (a.0 ∙ sym b.0, refused-one system plan content text another a.1 b.1)
+  kinds-one (inr (inl a)) (inr (inr (inl b))) = absurd (checked-not-reasoned plan (Some held) content text another status other a b)
+  kinds-one (inr (inl a)) (inr (inr (inr b))) = absurd (never-checked system plan content (Some held) text another status a b.1)
+  kinds-one (inr (inr (inl a))) (inl b) = absurd (alone-not-reasoned plan (Some held) content another text other status b a)
+  kinds-one (inr (inr (inl a))) (inr (inl b)) = absurd (checked-not-reasoned plan (Some held) content another text other status b a)
+  kinds-one (inr (inr (inl a))) (inr (inr (inl b))) = inl (reasoned-one a b)
+  kinds-one (inr (inr (inl a))) (inr (inr (inr b))) = absurd (never-reasoned system plan content (Some held) text another status a b.1)
+  kinds-one (inr (inr (inr a))) (inl b) = absurd (never-answered system plan content another text other b a.1)
+  kinds-one (inr (inr (inr a))) (inr (inl b)) = absurd (never-checked system plan content (Some held) another text other b a.1)
+  kinds-one (inr (inr (inr a))) (inr (inr (inl b))) = absurd (never-reasoned system plan content (Some held) another text other b a.1)
+  kinds-one (inr (inr (inr a))) (inr (inr (inr b))) = inl (a.0 ∙ sym b.0, refused-one system plan content text another a.1 b.1)
 
-pub one-answer : HasOneSystem → HasNoBad → HasOneFirst → IsOne → HasOneAnswer
-one-answer system no_bad first one plan held content text another status other d e =
-    kinds-one system no_bad first one plan held content text another status other (kind plan (Some held) content status text d) (kind plan (Some held) content other another e)
+pub one-answer : HasOneSystem → HasNoBad → HasOneFirst → IsOne → HasOneReasoning → HasOneAnswer
+one-answer system no_bad first one reasoning plan held content text another status other d e =
+    kinds-one system no_bad first one reasoning plan held content text another status other (kind plan (Some held) content status text d) (kind plan (Some held) content other another e)

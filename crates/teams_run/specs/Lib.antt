@@ -4,6 +4,7 @@ pub mod Accepted
 pub mod Solved
 pub mod Ready
 pub mod Judged
+pub mod Reasoned
 pub mod Samples
 pub mod Texts
 pub mod Exact

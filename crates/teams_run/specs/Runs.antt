@@ -1,17 +1,18 @@
 -- What a run of the program leaves behind, and why it ends as it does.
-use Rattle.std.specs.Prelude.{◌≡◌, ◌≢◌, ◌⊎◌, ℕ, ◌<◌, ◌≤◌, List, length, take, Option, Some, None}
+use Rattle.std.specs.Prelude.{◌≡◌, ◌≢◌, ◌⊎◌, ℕ, ◌<◌, ◌≤◌, List, [], length, take, Option, Some, None}
 use Rattle.sig_edge.specs.Causes.{Rose}
 use Rattle.sig_edge.specs.Shelf.{Holds, HoldsWhole, HoldsNone, HoldsLonger}
 use Rattle.sig_edge.specs.Sink.{Appends}
 use Rattle.seq_inst.specs.declared.outcome.Verdict.TheVariants.{Optimal, Bounded as BoundedVerdict}
 use Rattle.teams_words.specs.declared.plan.Plan.{Plan}
 use Rattle.teams_words.specs.declared.plan.Action.{Action}
-use Rattle.teams_words.specs.declared.plan.Action.TheVariants.{Check, Sample}
+use Rattle.teams_words.specs.declared.plan.Action.TheVariants.{Check, Sample, Reason}
 use Rattle.teams_words.specs.Plans.{value_of}
 use Rattle.teams_run.specs.declared.status.Status.{Status}
-use Rattle.teams_run.specs.declared.status.Status.TheVariants.{Done, ModelRefused, Usage, Bounded, ReadFault, WriteFault, NoMemory, Rejected, Missing, TooLong}
+use Rattle.teams_run.specs.declared.status.Status.TheVariants.{Done, ModelRefused, Usage, Bounded, ReadFault, WriteFault, NoMemory, Rejected, Missing, TooLong, Conflict}
 use Rattle.teams_run.specs.Samples.{IsSummary}
-use Rattle.teams_run.specs.Texts.{IsDue, IsFit, cert_name, cert_limit}
+use Rattle.teams_run.specs.Accepted.{refusals}
+use Rattle.teams_run.specs.Texts.{IsDue, IsFit, cert_name, cert_limit, log_name, log_limit}
 
 -- the limit of a model text in bytes
 abbrev pub model_limit : ℕ
@@ -46,17 +47,25 @@ pub record WantsCert (plan : Plan) (holds : Holds) : Type 0 where
   pub within : length content ≤ model_limit
   pub fit : IsFit plan content
 
+-- the plan is to reason over a log, and the model that is held is accepted, so that the log is fetched
+pub record WantsLog (plan : Plan) (holds : Holds) : Type 0 where
+  pub action : plan.action ≡ Reason
+  pub content : List ℕ
+  pub held : HoldsWhole holds plan.model content
+  pub within : length content ≤ model_limit
+  pub accepted : refusals content plan.mode ≡ []
+
 -- `sample` alone fetches no model
 abbrev pub WantsModel : Plan → Type 0
 WantsModel plan = plan.action ≢ Sample
 
--- where the shelf tells, the model's file isn't held, or a certificate's that is fetched
+-- where the shelf tells, the model's file isn't held, or a certificate's or a log's that is fetched
 abbrev pub LacksFile : Plan → Holds → Type 0
-LacksFile plan holds = HoldsNone holds plan.model ⊎ (WantsCert plan holds × HoldsNone holds (cert_name plan))
+LacksFile plan holds = HoldsNone holds plan.model ⊎ ((WantsCert plan holds × HoldsNone holds (cert_name plan)) ⊎ (WantsLog plan holds × HoldsNone holds (log_name plan)))
 
 -- where the shelf tells, a file that is fetched has more bytes than its limit
 abbrev pub HasLongFile : Plan → Holds → Type 0
-HasLongFile plan holds = HoldsLonger holds plan.model model_limit ⊎ (WantsCert plan holds × HoldsLonger holds (cert_name plan) cert_limit)
+HasLongFile plan holds = HoldsLonger holds plan.model model_limit ⊎ ((WantsCert plan holds × HoldsLonger holds (cert_name plan) cert_limit) ⊎ (WantsLog plan holds × HoldsLonger holds (log_name plan) log_limit))
 
 -- what can be told of a shelf and a sink at one moment: what the shelf holds, how often it missed a file and how often it failed;
 -- what was written into the sink, and how often it failed
@@ -97,6 +106,7 @@ EndsAs plan before after Done = Writes plan before after Done
 EndsAs plan before after Bounded = Writes plan before after Bounded
 EndsAs plan before after Rejected = Writes plan before after Rejected
 EndsAs plan before after ModelRefused = Writes plan before after ModelRefused
+EndsAs plan before after Conflict = Writes plan before after Conflict
 EndsAs plan before after WriteFault = WritesPart plan before after
 EndsAs plan before after Missing = IsSilent before after × WantsModel plan × Rose before.misses after.misses × LacksFile plan before.holds
 EndsAs plan before after ReadFault = IsSilent before after × WantsModel plan × Rose before.shelf_faults after.shelf_faults

@@ -1,7 +1,7 @@
 -- The number of each status.
 use Rattle.std.specs.Prelude.{ℕ}
 use Rattle.teams_run.specs.declared.status.Status.{Status}
-use Rattle.teams_run.specs.declared.status.Status.TheVariants.{Done, ModelRefused, Usage, Bounded, ReadFault, WriteFault, NoMemory, Rejected, Missing, TooLong}
+use Rattle.teams_run.specs.declared.status.Status.TheVariants.{Done, ModelRefused, Usage, Bounded, ReadFault, WriteFault, NoMemory, Rejected, Missing, TooLong, Conflict}
 
 abbrev pub status_number : Status → ℕ
 status_number Done = 0
@@ -14,3 +14,4 @@ status_number NoMemory = 6
 status_number Rejected = 7
 status_number Missing = 8
 status_number TooLong = 9
+status_number Conflict = 10

@@ -17,13 +17,14 @@ use Rattle.sig_figures.specs.Figures.{AreFigures}
 use Rattle.sig_figures.specs.FiguresText.{figures_bytes}
 use Rattle.teams_words.specs.declared.plan.Plan.{Plan}
 use Rattle.teams_words.specs.declared.plan.Action.{Action}
-use Rattle.teams_words.specs.declared.plan.Action.TheVariants.{Solve, Check, Matrix as MatrixAction, Figures as FiguresAction, Sample}
+use Rattle.teams_words.specs.declared.plan.Action.TheVariants.{Solve, Check, Matrix as MatrixAction, Figures as FiguresAction, Reason}
 use Rattle.teams_run.specs.declared.status.Status.{Status}
-use Rattle.teams_run.specs.declared.status.Status.TheVariants.{Done, Bounded, ModelRefused, Rejected}
+use Rattle.teams_run.specs.declared.status.Status.TheVariants.{Done, Bounded, ModelRefused, Rejected, Conflict}
 use Rattle.teams_run.specs.RefusalText.{refusal_line}
 use Rattle.teams_run.specs.Accepted.{IsMatrixOfText, refusals, mode_number}
 use Rattle.teams_run.specs.Solved.{IsSolution, class_refusals}
 use Rattle.teams_run.specs.Judged.{IsJudgement}
+use Rattle.teams_run.specs.Reasoned.{IsReasoning}
 
 -- how a text names the mode: by its name, or `-` where none is named
 abbrev pub mode_word : Option (List ℕ) → List ℕ
@@ -71,6 +72,25 @@ pub record IsChecked (plan : Plan) (holds : Holds) (content : List ℕ) (status 
   pub within : length cert ≤ cert_limit
   pub judged : IsJudgement (system_of matrix) (labels_from matrix (mode_word plan.mode)) cert status text
 
+-- the limit of a log in bytes
+abbrev pub log_limit : ℕ
+log_limit = 1048576
+
+-- the name of the log's file
+abbrev pub log_name : Plan → List ℕ
+log_name plan = unwrap_or plan.log (codes "-")
+
+-- the bytes are accepted, and the text says what the log that is held says of the faults of their matrix
+pub record IsReasoned (plan : Plan) (holds : Holds) (content : List ℕ) (status : Status) (text : List ℕ) : Type 0 where
+  pub action : plan.action ≡ Reason
+  pub flat : Flat
+  pub matrix : Matrix
+  pub of_text : IsMatrixOfText content plan.mode flat matrix
+  pub log : List ℕ
+  pub held : HoldsWhole holds (log_name plan) log
+  pub within : length log ≤ log_limit
+  pub reasoning : IsReasoning matrix (mode_word plan.mode) log status text
+
 -- what an action refuses an accepted text's system for: a search and a check take at most 512 ambiguity groups, and the
 -- other actions any number
 abbrev pub fit_refusals : Action → System → List Refusal
@@ -104,8 +124,9 @@ pub record IsRefused (plan : Plan) (content text : List ℕ) : Type 0 where
 
 -- what is due for the bytes of a model, with the status that goes with it
 abbrev pub IsDue : Plan → Holds → List ℕ → Status → List ℕ → Type 0
-IsDue plan holds content Done text = IsAnswer plan content Done text ⊎ IsChecked plan holds content Done text
+IsDue plan holds content Done text = IsAnswer plan content Done text ⊎ (IsChecked plan holds content Done text ⊎ IsReasoned plan holds content Done text)
 IsDue plan holds content Bounded text = IsAnswer plan content Bounded text
-IsDue plan holds content Rejected text = IsChecked plan holds content Rejected text
+IsDue plan holds content Rejected text = IsChecked plan holds content Rejected text ⊎ IsReasoned plan holds content Rejected text
+IsDue plan holds content Conflict text = IsReasoned plan holds content Conflict text
 IsDue plan holds content ModelRefused text = IsRefused plan content text
 IsDue plan holds content other text = ⊥

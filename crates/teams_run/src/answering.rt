@@ -2,6 +2,7 @@
 //! matrix, and part there; the check of a certificate goes on with a second file.
 ghost use Rattle.std.specs.Prelude.{◌≡◌, ◌≢◌, ◌<◌, length, option_map, IfOk, IfErr, IfSome};
 ghost use Rattle.sig_flat.specs.Valid.{IsValid as IsValidFlat};
+ghost use Rattle.sig_flat.specs.declared.flat.Flat.{Flat};
 ghost use Rattle.sig_matrix.specs.Valid.{IsValid};
 ghost use Rattle.sig_matrix.specs.Detection.{IsMatrixOf, system_of};
 ghost use Rattle.sig_types.specs.Refused.{TellsFirst};
@@ -128,6 +129,7 @@ fn done(text: Vec<u8>) -> Due
 fn action_due(alloc: Global, plan: &Plan, accepted: &Accepted) -> Result<Due, ModelFault>
     requires alone { plan.now.action ≢ Action.Check }
     requires file { plan.now.action ≢ Action.Sample }
+    requires log { plan.now.action ≢ Action.Reason }
     requires limit { IsLimit plan.now.groups }
     requires flat { IsValidFlat accepted.now.flat }
     requires there { IfSome accepted.now.mode (λ m. m < length accepted.now.flat.modes) }
@@ -150,7 +152,7 @@ fn action_due(alloc: Global, plan: &Plan, accepted: &Accepted) -> Result<Due, Mo
             let text = figured(alloc, &accepted.flat, matrix, accepted.mode, name)?;
             Ok(done(text))
         }
-        Action::Check | Action::Sample => unreachable!(),
+        Action::Check | Action::Sample | Action::Reason => unreachable!(),
     }
 }
 
@@ -158,6 +160,7 @@ fn action_due(alloc: Global, plan: &Plan, accepted: &Accepted) -> Result<Due, Mo
 pub fn answer_for(alloc: Global, plan: &Plan, content: &[u8]) -> Result<Due, ModelFault>
     requires alone { plan.now.action ≢ Action.Check }
     requires file { plan.now.action ≢ Action.Sample }
+    requires log { plan.now.action ≢ Action.Reason }
     requires limit { IsLimit plan.now.groups }
     ensures answer { IfOk result (λ due. IsAnswer plan.now content.now due.status due.text.items) }
     ensures refused { IfErr result (IsFaultOfBytes plan.now content.now) }
@@ -181,4 +184,14 @@ pub fn prepared_for(
     let accepted = accept(alloc, plan, content)?;
     let prepared = prepare(alloc, &accepted.matrix, mode_name(plan))?;
     Ok((accepted, prepared))
+}
+
+/// The matrix of the text, over which a log is read.
+pub fn accepted_for(alloc: Global, plan: &Plan, content: &[u8]) -> Result<Matrix, ModelFault>
+    ensures text { IfOk result (λ matrix. (flat : Flat) × IsMatrixOfText content.now plan.now.mode flat matrix) }
+    ensures valid { IfOk result IsValid }
+    ensures refused { IfErr result (IsFaultOfBytes plan.now content.now) }
+{
+    let accepted = accept(alloc, plan, content)?;
+    Ok(accepted.matrix)
 }

@@ -9,6 +9,7 @@ use seq_cert::one_text;
 use seq_theory::passage_holds;
 use sig_flat::one_flat;
 use sig_matrix::one_matrix;
+use sig_reason::one_reasoning;
 
 /// The flat model and the matrix of a text, in one mode or with all its tests, are the only ones.
 pub fn one_system()
@@ -18,13 +19,14 @@ pub fn one_system()
     one_matrix();
 }
 
-/// For the bytes of a model, a plan and a certificate one answer is due: exactly one of Done, Bounded, ModelRefused and
-/// Rejected, with one text. Between two reports of strategies, optimal or bounded, the text tells which it is.
+/// For the bytes of a model, a plan, and a certificate or a log one answer is due: exactly one of Done, Bounded, ModelRefused,
+/// Rejected and Conflict, with one text. Between two reports of strategies, optimal or bounded, the text tells which it is.
 pub fn one_answer()
     ensures { HasOneAnswer }
 {
     one_system();
     one_text();
+    one_reasoning();
 }
 
 /// What `solve` wrote for some bytes and a mode is accepted by `check` for these bytes and this mode.

@@ -9,6 +9,7 @@ mod due;
 mod judging;
 mod laws;
 mod preparing;
+mod reasoning;
 mod refusing;
 mod running;
 mod sampling;

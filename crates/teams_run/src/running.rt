@@ -2,17 +2,19 @@
 //! `run_quiet` does what a plan asks, on one thread. A text is made whole before the first write.
 //!
 //! What a run leaves behind is told by one relation, `EndsAs`: a line for each status, with its cause.
-ghost use Rattle.std.specs.Prelude.{◌≡◌, ◌≢◌, map, string_bytes, Ok, IfOk, IfErr, IsErrOf, IsSome};
+ghost use Rattle.std.specs.Prelude.{◌≡◌, ◌≢◌, [], map, string_bytes, Ok, IfOk, IfErr, IsErrOf, IsSome};
 ghost use Rattle.sig_edge.specs.Causes.{Rose};
 ghost use Rattle.sig_edge.specs.Shelf.{Holds, HoldsNone, HoldsLonger};
 ghost use Rattle.teams_words.specs.Plans.{plan_of, IsProper};
 ghost use Rattle.teams_run.specs.RefusalText.{refusal_line};
-ghost use Rattle.teams_run.specs.Texts.{IsDue, IsFit, cert_limit, cert_name};
+ghost use Rattle.teams_run.specs.Texts.{IsDue, IsFit, cert_limit, cert_name, log_limit, log_name};
+ghost use Rattle.teams_run.specs.Accepted.{refusals};
 ghost use Rattle.teams_run.specs.Runs.{moment, EndsAs, EndsFor, IsDueOfFile, IsDueText, WantsModel, HasLongFile, LacksFile};
 
-use crate::answering::{answer_for, mode_name, prepared_for};
+use crate::answering::{accepted_for, answer_for, mode_name, prepared_for};
 use crate::due::Due;
 use crate::judging::judgement_on;
+use crate::reasoning::reasoning_on;
 use crate::refusing::refusal_text;
 use crate::sampling::sample_due;
 use crate::status::Status;
@@ -33,11 +35,12 @@ fn refused(alloc: Global, refusal: Refusal) -> Result<Due, AllocError>
     })
 }
 
-/// What is due where the plan needs no certificate, whatever files are held.
+/// What is due where the plan needs no certificate and no log, whatever files are held.
 fn answer_due(alloc: Global, plan: &Plan, content: &[u8]) -> Result<Due, AllocError>
     requires proper { IsProper plan.now }
     requires alone { plan.now.action ≢ Action.Check }
     requires file { WantsModel plan.now }
+    requires log { plan.now.action ≢ Action.Reason }
     ensures { IfOk result (λ due. (holds : Holds) → IsDue plan.now holds content.now due.status due.text.items) }
 {
     match answer_for(alloc, plan, content) {
@@ -98,6 +101,46 @@ fn check_due<D: Shelf>(
     }
 }
 
+/// The name of the log's file.
+fn log_name(plan: &Plan) -> &str
+    requires { IsSome plan.now.log }
+    ensures { result.now ≡ log_name plan.now }
+{
+    match &plan.log {
+        Some(name) => name.as_str(),
+        None => unreachable!(),
+    }
+}
+
+/// What is due for a log, which is fetched once the model is accepted.
+fn reason_due<D: Shelf>(
+    alloc: Global,
+    plan: &Plan,
+    content: &[u8],
+    shelf: &mut D,
+) -> Result<Due, FetchFault>
+    requires action { plan.now.action ≡ Action.Reason }
+    requires log { IsSome plan.now.log }
+    ensures due { IfOk result (λ due. IsDue plan.now (D.holds shelf.old) content.now due.status due.text.items) }
+    ensures missing { IsErrOf result FetchFault.Missing → Rose (D.misses shelf.old) (D.misses shelf.new) }
+    ensures missing_held { IsErrOf result FetchFault.Missing → (refusals content.now plan.now.mode ≡ []) × HoldsNone (D.holds shelf.old) (log_name plan.now) }
+    ensures failed { IsErrOf result FetchFault.Failed → Rose (D.faults shelf.old) (D.faults shelf.new) }
+    ensures too_long { IsErrOf result FetchFault.TooLong → (refusals content.now plan.now.mode ≡ []) × HoldsLonger (D.holds shelf.old) (log_name plan.now) log_limit }
+    ensures same { D.holds shelf.new ≡ D.holds shelf.old }
+{
+    let matrix = match accepted_for(alloc, plan, content) {
+        Ok(matrix) => matrix,
+        Err(ModelFault::Refused(refusal)) => return in_memory(refused(alloc, refusal)),
+        Err(ModelFault::OutOfMemory) => return Err(FetchFault::OutOfMemory),
+    };
+    let log = fetch(alloc, shelf, log_name(plan), 1_048_576)?;
+    let mode = mode_name(plan);
+    match reasoning_on(alloc, &matrix, mode, log.as_slice()) {
+        Ok(due) => Ok(due),
+        Err(_) => Err(FetchFault::OutOfMemory),
+    }
+}
+
 /// What is due for the model's file that the shelf holds.
 fn file_due<D: Shelf>(alloc: Global, plan: &Plan, shelf: &mut D) -> Result<Due, FetchFault>
     requires proper { IsProper plan.now }
@@ -111,6 +154,8 @@ fn file_due<D: Shelf>(alloc: Global, plan: &Plan, shelf: &mut D) -> Result<Due, 
     let content = fetch(alloc, shelf, plan.model.as_str(), 1_048_576)?;
     if plan.action == Action::Check {
         check_due(alloc, plan, content.as_slice(), shelf)
+    } else if plan.action == Action::Reason {
+        reason_due(alloc, plan, content.as_slice(), shelf)
     } else {
         in_memory(answer_due(alloc, plan, content.as_slice()))
     }

@@ -1,7 +1,7 @@
 //! How a call of the program ends, with the number that the process ends with.
 ghost use Rattle.std.specs.Prelude.{◌≡◌};
 
-/// How the program ended. Statuses 0, 1, 3 and 7 say that the sink took the whole text.
+/// How the program ended. Statuses 0, 1, 3, 7 and 10 say that the sink took the whole text.
 #[derive(Clone, Copy, Debug, PartialEq, Eq)]
 pub enum Status {
     /// The action succeeded, and its text was written.
@@ -18,12 +18,14 @@ pub enum Status {
     WriteFault,
     /// Memory was refused.
     NoMemory,
-    /// The certificate has a bad line, which was named.
+    /// The certificate, or the log, has a bad line, which was named.
     Rejected,
     /// There is no such file.
     Missing,
     /// A file is longer than its limit.
     TooLong,
+    /// No set of faults explains what the log says was found, and a test that shows it was named.
+    Conflict,
 }
 
 impl Status {
@@ -44,6 +46,7 @@ impl Status {
             Status::Rejected => 7,
             Status::Missing => 8,
             Status::TooLong => 9,
+            Status::Conflict => 10,
         }
     }
 }

@@ -319,6 +319,45 @@ fn limits(rt: HostRuntime) -> Result<(), Fail> {
     Ok(())
 }
 
+/// How `reason` on the receiver ends over a log that is held, and what it writes.
+fn reasoned(alloc: Global, log: &[u8]) -> Result<(Status, Vec<u8>), AllocError> {
+    let mut shelf = MemShelf::new(alloc, Vec::new(alloc));
+    shelf.add("m.toml", RADIO.as_bytes())?;
+    shelf.add("l", log)?;
+    let mut sink = MemSink::new(alloc, 4096, 4096, Vec::new(alloc))?;
+    let words = words_of(alloc, &["reason", "m.toml", "--log=l"])?;
+    let status = run(alloc, words.as_slice(), &mut shelf, &mut sink);
+    let wrote = Vec::from_slice(alloc, sink.wrote())?;
+    Ok((status, wrote))
+}
+
+/// Several faults may be present at once.
+#[test]
+fn logs(rt: HostRuntime) -> Result<(), Fail> {
+    let alloc = rt.alloc();
+    for (log, number, text) in [
+        ("pass s1/tp/v\nfail s3/tp/v\n", 0, "teams reason 1\nmode -\nfaults 3\ngood s1/amp.f\nsuspect s2/amp.f\nsuspect s3/amp.f\nend\n"),
+        ("pass s1/tp/v\nfail s3/tp/v\nfail s2/tp/v\n", 0, "teams reason 1\nmode -\nfaults 3\ngood s1/amp.f\nbad s2/amp.f\nunknown s3/amp.f\nend\n"),
+        ("fail s1/tp/v\npass s3/tp/v\n", 10, "conflict s1/tp/v\n"),
+        ("", 0, "teams reason 1\nmode -\nfaults 3\nunknown s1/amp.f\nunknown s2/amp.f\nunknown s3/amp.f\nend\n"),
+        ("fail s1/tp/v", 7, "rejected line 1 L01\n"),
+        ("fail s1/tp/v\nfail s4/tp/v\n", 7, "rejected line 2 L02\n"),
+        ("fail s1/tp/v\npass s1/tp/v\n", 7, "rejected line 2 L03\n"),
+    ] {
+        let (status, wrote) = reasoned(alloc, log.as_bytes())?;
+        assert_eq!(rt; status.number(), number);
+        assert_eq!(rt; str::from_utf8(wrote.as_slice())?, text);
+    }
+    let (status, wrote) = ran(alloc, &["reason", "m.toml", "--log=l"], RADIO.as_bytes())?;
+    assert_eq!(rt; status, Status::Missing);
+    assert_eq!(rt; wrote.len(), 0);
+    let long = vec![in alloc; b'x'; 1_048_577]?;
+    let (status, wrote) = reasoned(alloc, long.as_slice())?;
+    assert_eq!(rt; status, Status::TooLong);
+    assert_eq!(rt; wrote.len(), 0);
+    Ok(())
+}
+
 /// How the check of a certificate against a model ends, and what it writes.
 fn checked(alloc: Global, text: &str, cert: &str) -> Result<(Status, Vec<u8>), AllocError> {
     let mut shelf = MemShelf::new(alloc, Vec::new(alloc));
@@ -332,6 +371,7 @@ fn checked(alloc: Global, text: &str, cert: &str) -> Result<(Status, Vec<u8>), A
         workers: 0,
         groups: 4000,
         mode: None,
+        log: None,
     };
     let status = run_quiet(alloc, &plan, &mut shelf, &mut sink);
     let wrote = Vec::from_slice(alloc, sink.wrote())?;

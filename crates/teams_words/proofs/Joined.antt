@@ -5,7 +5,7 @@ use Rattle.teams_words.specs.declared.parts.Reader.{Reader}
 use Rattle.teams_words.specs.Read.{Reads, whole}
 
 joined_assoc : (p q r : Parts) → joined p (joined q r) ≡ joined (joined p q) r
-joined_assoc p q r = rw (append_assoc p.cert q.cert r.cert, append_assoc p.workers q.workers r.workers, append_assoc p.groups q.groups r.groups, append_assoc p.mode q.mode r.mode, append_assoc p.others q.others r.others) refl
+joined_assoc p q r = rw (append_assoc p.cert q.cert r.cert, append_assoc p.workers q.workers r.workers, append_assoc p.groups q.groups r.groups, append_assoc p.mode q.mode r.mode, append_assoc p.log q.log r.log, append_assoc p.others q.others r.others) refl
 
 pub with_more : (p q : Parts) (r : Option Parts) → with_parts p (with_parts q r) ≡ with_parts (joined p q) r
 with_more p q None = refl

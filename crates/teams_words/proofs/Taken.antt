@@ -12,7 +12,7 @@ use Rattle.clap.specs.Takes.{turn_passes, walk_passes}
 use Rattle.clap.specs.declared.parser.matches.Found.{Found}
 use Rattle.clap.proofs.WalkLemmas.{first_value-rows}
 use Rattle.teams_words.specs.declared.word.OptionName.{OptionName}
-use Rattle.teams_words.specs.declared.word.OptionName.TheVariants.{Cert, Workers, Groups, Mode}
+use Rattle.teams_words.specs.declared.word.OptionName.TheVariants.{Cert, Workers, Groups, Mode, Log}
 use Rattle.teams_words.specs.Command.{teams}
 use Rattle.teams_words.specs.Words.{Parts, no_parts, value_part, other_part, joined, with_parts, goes_on, is_plain, valued, named, parts_after, parts_in}
 use Rattle.teams_words.specs.Plans.{Chosen, chosen_of, chosen_in, chosen_from, are_once, is_once}
@@ -47,7 +47,10 @@ valued_is word name value e =
           | inl so ↦ let (n, v) = the_pair Groups name (drop 9 word) value (rw (no1, no2, so) at e) in rw (← n, ← v) (started (codes "--groups=") word so)
           | inr no3 ↦ elim (cases_Bool (goes_on (codes "--mode=") word)) [
             | inl so ↦ let (n, v) = the_pair Mode name (drop 7 word) value (rw (no1, no2, no3, so) at e) in rw (← n, ← v) (started (codes "--mode=") word so)
-            | inr no4 ↦ absurd (cc_none (rw (no1, no2, no3, no4) at e))
+            | inr no4 ↦ elim (cases_Bool (goes_on (codes "--log=") word)) [
+              | inl so ↦ let (n, v) = the_pair Log name (drop 6 word) value (rw (no1, no2, no3, no4, so) at e) in rw (← n, ← v) (started (codes "--log=") word so)
+              | inr no5 ↦ absurd (cc_none (rw (no1, no2, no3, no4, no5) at e))
+            ]
           ]
         ]
       ]
@@ -66,7 +69,10 @@ named_is word name e =
           | inl so ↦ rw (← the_name Groups name (rw (no1, no2, so) at e)) ((bytes_eq-Decides word (codes "--groups")).0 so)
           | inr no3 ↦ elim (cases_Bool (bytes_eq word (codes "--mode"))) [
             | inl so ↦ rw (← the_name Mode name (rw (no1, no2, no3, so) at e)) ((bytes_eq-Decides word (codes "--mode")).0 so)
-            | inr no4 ↦ absurd (cc_none (rw (no1, no2, no3, no4) at e))
+            | inr no4 ↦ elim (cases_Bool (bytes_eq word (codes "--log"))) [
+              | inl so ↦ rw (← the_name Log name (rw (no1, no2, no3, no4, so) at e)) ((bytes_eq-Decides word (codes "--log")).0 so)
+              | inr no5 ↦ absurd (cc_none (rw (no1, no2, no3, no4, no5) at e))
+            ]
           ]
         ]
       ]
@@ -79,12 +85,14 @@ values Cert p = p.cert
 values Workers p = p.workers
 values Groups p = p.groups
 values Mode p = p.mode
+values Log p = p.log
 
 abbrev given : OptionName → Chosen → Option Text
 given Cert c = c.cert
 given Workers c = c.workers
 given Groups c = c.groups
 given Mode c = c.mode
+given Log c = c.log
 
 -- one option is another, or their ids and lists are apart
 abbrev Apart : OptionName → OptionName → Type 0
@@ -95,42 +103,55 @@ same_or_apart Cert Cert = inl refl
 same_or_apart Cert Workers = inr (refl, λ v p. refl)
 same_or_apart Cert Groups = inr (refl, λ v p. refl)
 same_or_apart Cert Mode = inr (refl, λ v p. refl)
+same_or_apart Cert Log = inr (refl, λ v p. refl)
 same_or_apart Workers Cert = inr (refl, λ v p. refl)
 same_or_apart Workers Workers = inl refl
 same_or_apart Workers Groups = inr (refl, λ v p. refl)
 same_or_apart Workers Mode = inr (refl, λ v p. refl)
+same_or_apart Workers Log = inr (refl, λ v p. refl)
 same_or_apart Groups Cert = inr (refl, λ v p. refl)
 same_or_apart Groups Workers = inr (refl, λ v p. refl)
 same_or_apart Groups Groups = inl refl
 same_or_apart Groups Mode = inr (refl, λ v p. refl)
+same_or_apart Groups Log = inr (refl, λ v p. refl)
 same_or_apart Mode Cert = inr (refl, λ v p. refl)
 same_or_apart Mode Workers = inr (refl, λ v p. refl)
 same_or_apart Mode Groups = inr (refl, λ v p. refl)
 same_or_apart Mode Mode = inl refl
+same_or_apart Mode Log = inr (refl, λ v p. refl)
+same_or_apart Log Cert = inr (refl, λ v p. refl)
+same_or_apart Log Workers = inr (refl, λ v p. refl)
+same_or_apart Log Groups = inr (refl, λ v p. refl)
+same_or_apart Log Mode = inr (refl, λ v p. refl)
+same_or_apart Log Log = inl refl
 
 values_own : (n : OptionName) (v : Text) (p : Parts) → values n (joined (value_part n v) p) ≡ v ∷ values n p
 values_own Cert v p = refl
 values_own Workers v p = refl
 values_own Groups v p = refl
 values_own Mode v p = refl
+values_own Log v p = refl
 
 others_stay : (n : OptionName) (v : Text) (p : Parts) → (joined (value_part n v) p).others ≡ p.others
 others_stay Cert v p = refl
 others_stay Workers v p = refl
 others_stay Groups v p = refl
 others_stay Mode v p = refl
+others_stay Log v p = refl
 
 values_stay : (n : OptionName) (word : Text) (p : Parts) → values n (joined (other_part word) p) ≡ values n p
 values_stay Cert word p = refl
 values_stay Workers word p = refl
 values_stay Groups word p = refl
 values_stay Mode word p = refl
+values_stay Log word p = refl
 
 values_none : (n : OptionName) → values n no_parts ≡ []
 values_none Cert = refl
 values_none Workers = refl
 values_none Groups = refl
 values_none Mode = refl
+values_none Log = refl
 
 -- the option's one value, from the one read and those to come
 abbrev once : Option Text → List Text → Option (Option Text)
@@ -227,12 +248,14 @@ with_value n v seen c rows r asks =
     no_action Workers = refl
     no_action Groups = refl
     no_action Mode = refl
+    no_action Log = refl
 
     no_model : (m : OptionName) → bytes_eq (id_of m) (codes "model") ≡ false
     no_model Cert = refl
     no_model Workers = refl
     no_model Groups = refl
     no_model Mode = refl
+    no_model Log = refl
 
     each : (m : OptionName) → first_of (id_of n) rows ≡ None → once (Some v) (values n r) ≡ Some (given n c) → once (first_of (id_of m) (rows ++ found (id_of n) v ∷ [])) (values m r) ≡ Some (given m c)
     each m absent later =
@@ -267,6 +290,7 @@ with_action v c rows r asks =
     apart Workers = refl
     apart Groups = refl
     apart Mode = refl
+    apart Log = refl
 
     each : (m : OptionName) → once (first_of (id_of m) (rows ++ found (codes "action") v ∷ [])) (values m r) ≡ Some (given m c)
     each m = rw (first_other (id_of m) v (codes "action") rows asks.are_whole (apart m)) (rw (values_stay m v r) at (asks.options m))
@@ -293,6 +317,7 @@ with_model v c rows r asks =
     apart Workers = refl
     apart Groups = refl
     apart Mode = refl
+    apart Log = refl
 
     each : (m : OptionName) → once (first_of (id_of m) (rows ++ found (codes "model") v ∷ [])) (values m r) ≡ Some (given m c)
     each m = rw (first_other (id_of m) v (codes "model") rows asks.are_whole (apart m)) (rw (values_stay m v r) at (asks.options m))
@@ -396,15 +421,17 @@ of_others (a ∷ m ∷ b ∷ more) p c os are e = absurd (cc_none e)
 of_others (a ∷ m ∷ []) p c os are e =
     let (cert, rest) = and_parts (is_once p.cert) _ are in
     let (workers, rest') = and_parts (is_once p.workers) _ rest in
-    let (groups, mode) = and_parts (is_once p.groups) (is_once p.mode) rest' in
+    let (groups, last) = and_parts (is_once p.groups) _ rest' in
+    let (mode, log) = and_parts (is_once p.mode) (is_once p.log) last in
     let is = ap (λ (o : Option Chosen). unwrap_or o c) e in
-    rw (← is) (record { options = each cert workers groups mode; others = os })
+    rw (← is) (record { options = each cert workers groups mode log; others = os })
   where
-    each : is_once p.cert ≡ true → is_once p.workers ≡ true → is_once p.groups ≡ true → is_once p.mode ≡ true → (n : OptionName) → once None (values n p) ≡ Some (given n (record { action = a; model = m; cert = first_value_of p.cert; workers = first_value_of p.workers; groups = first_value_of p.groups; mode = first_value_of p.mode }))
-    each cert workers groups mode Cert = first_once p.cert cert
-    each cert workers groups mode Workers = first_once p.workers workers
-    each cert workers groups mode Groups = first_once p.groups groups
-    each cert workers groups mode Mode = first_once p.mode mode
+    each : is_once p.cert ≡ true → is_once p.workers ≡ true → is_once p.groups ≡ true → is_once p.mode ≡ true → is_once p.log ≡ true → (n : OptionName) → once None (values n p) ≡ Some (given n (record { action = a; model = m; cert = first_value_of p.cert; workers = first_value_of p.workers; groups = first_value_of p.groups; mode = first_value_of p.mode; log = first_value_of p.log }))
+    each cert workers groups mode log Cert = first_once p.cert cert
+    each cert workers groups mode log Workers = first_once p.workers workers
+    each cert workers groups mode log Groups = first_once p.groups groups
+    each cert workers groups mode log Mode = first_once p.mode mode
+    each cert workers groups mode log Log = first_once p.log log
 
 of_parts : (p : Parts) (c : Chosen) → chosen_of p ≡ Some c → AreFor p c
 of_parts p c e =
@@ -423,7 +450,7 @@ same_either false rows = refl
 
 -- no argument has a default
 no_defaults : (rows : List Row) → fold with_default rows rules ≡ rows
-no_defaults rows = rw (same_either (has_row (codes "action") rows) rows, same_either (has_row (codes "model") rows) rows, same_either (has_row (codes "cert") rows) rows, same_either (has_row (codes "workers") rows) rows, same_either (has_row (codes "groups") rows) rows, same_either (has_row (codes "mode") rows) rows) refl
+no_defaults rows = rw (same_either (has_row (codes "action") rows) rows, same_either (has_row (codes "model") rows) rows, same_either (has_row (codes "cert") rows) rows, same_either (has_row (codes "workers") rows) rows, same_either (has_row (codes "groups") rows) rows, same_either (has_row (codes "mode") rows) rows, same_either (has_row (codes "log") rows) rows) refl
 
 at_start : Ready [] 1 (walk_from nothing_held)
 at_start = record { before = []; pending = None; stands = refl; settles = refl; passes = refl }
@@ -448,7 +475,7 @@ found_is words f rows = go (chosen_in words) refl
         let (walks, ends) = choice_read words c e in
         let rows_are : matches_of teams words ≡ ends.rows = rw (ends.ready.stands, ends.ready.settles) (no_defaults ends.rows) in
         let at : (id : Text) → first_value f id ≡ first_of id ends.rows = λ id. first_value-rows f id ∙ ap (first_of id) (rows ∙ rows_are) in
-        (at (codes "action") ∙ ends.action, at (codes "model") ∙ ends.model, at (codes "cert") ∙ ends.options Cert, at (codes "workers") ∙ ends.options Workers, at (codes "groups") ∙ ends.options Groups, at (codes "mode") ∙ ends.options Mode)
+        (at (codes "action") ∙ ends.action, at (codes "model") ∙ ends.model, at (codes "cert") ∙ ends.options Cert, at (codes "workers") ∙ ends.options Workers, at (codes "groups") ∙ ends.options Groups, at (codes "mode") ∙ ends.options Mode, at (codes "log") ∙ ends.options Log)
 
 pub taken_where : (words : List Text) → is_some (chosen_in words) ≡ true → takes teams words ≡ true
 taken_where words there = go (chosen_in words) refl there

@@ -11,7 +11,7 @@ use Rattle.clap.specs.Words.{is_simple}
 use Rattle.clap.specs.declared.builder.action.ArgAction.TheVariants.{Set}
 use Rattle.clap.specs.declared.parser.matches.ValueSource.TheVariants.{CommandLine}
 use Rattle.teams_words.specs.declared.word.OptionName.{OptionName}
-use Rattle.teams_words.specs.declared.word.OptionName.TheVariants.{Cert, Workers, Groups, Mode}
+use Rattle.teams_words.specs.declared.word.OptionName.TheVariants.{Cert, Workers, Groups, Mode, Log}
 use Rattle.teams_words.specs.Command.{teams}
 use Rattle.teams_words.specs.Words.{is_plain}
 
@@ -28,18 +28,21 @@ id_of Cert = codes "cert"
 id_of Workers = codes "workers"
 id_of Groups = codes "groups"
 id_of Mode = codes "mode"
+id_of Log = codes "log"
 
 abbrev pub word_of : OptionName → Text
 word_of Cert = codes "--cert"
 word_of Workers = codes "--workers"
 word_of Groups = codes "--groups"
 word_of Mode = codes "--mode"
+word_of Log = codes "--log"
 
 abbrev pub start_of : OptionName → Text
 start_of Cert = codes "--cert="
 start_of Workers = codes "--workers="
 start_of Groups = codes "--groups="
 start_of Mode = codes "--mode="
+start_of Log = codes "--log="
 
 abbrev rule_for : OptionName → Rule
 rule_for name = unwrap_or (arg_by_long rules (id_of name)) (new_rule [])
@@ -102,6 +105,7 @@ value_walked Cert word rows k plain = rw (plain_dashes word plain, plain_long wo
 value_walked Workers word rows k plain = rw (plain_dashes word plain, plain_long word plain, plain_short word plain) refl
 value_walked Groups word rows k plain = rw (plain_dashes word plain, plain_long word plain, plain_short word plain) refl
 value_walked Mode word rows k plain = rw (plain_dashes word plain, plain_long word plain, plain_short word plain) refl
+value_walked Log word rows k plain = rw (plain_dashes word plain, plain_long word plain, plain_short word plain) refl
 
 -- `--NAME` alone
 alone_walked : (name : OptionName) (rows : List Row) (pending : Option (Text × List Text)) (k : ℕ) → walked rules [] (at rows pending idle k) (word_of name) ≡ at (settled_rows rules pending rows) (Some (id_of name, [])) (option (id_of name)) k
@@ -110,6 +114,7 @@ alone_walked Cert rows pending k = refl
 alone_walked Workers rows pending k = refl
 alone_walked Groups rows pending k = refl
 alone_walked Mode rows pending k = refl
+alone_walked Log rows pending k = refl
 
 -- `--NAME=VALUE`
 attached_walked : (name : OptionName) (value : List ℕ) (rows : List Row) (pending : Option (Text × List Text)) (k : ℕ) → walked rules [] (at rows pending idle k) (start_of name ++ value) ≡ at (used (rule_for name) (value ∷ []) (settled_rows rules pending rows)) None idle k
@@ -118,6 +123,7 @@ attached_walked Cert value rows pending k = refl
 attached_walked Workers value rows pending k = refl
 attached_walked Groups value rows pending k = refl
 attached_walked Mode value rows pending k = refl
+attached_walked Log value rows pending k = refl
 
 -- ---- what is found
 
@@ -189,6 +195,7 @@ ready_option Cert v rows k absent = new_pending (codes "cert") (rule_by (codes "
 ready_option Workers v rows k absent = new_pending (codes "workers") (rule_by (codes "workers")) v rows k refl refl refl refl (λ h. rw h refl) absent
 ready_option Groups v rows k absent = new_pending (codes "groups") (rule_by (codes "groups")) v rows k refl refl refl refl (λ h. rw h refl) absent
 ready_option Mode v rows k absent = new_pending (codes "mode") (rule_by (codes "mode")) v rows k refl refl refl refl (λ h. rw h refl) absent
+ready_option Log v rows k absent = new_pending (codes "log") (rule_by (codes "log")) v rows k refl refl refl refl (λ h. rw h refl) absent
 
 pub first_step : (word : Text) (rows : List Row) (w : Walk) → Ready rows 1 w → is_plain word ≡ true → has_row (codes "action") rows ≡ false
     → (turn_passes top [] w word ≡ true) × Ready (rows ++ found (codes "action") word ∷ []) 2 (walked rules [] w word)
@@ -209,6 +216,7 @@ alone_passes Cert rows pending k passes = rw passes refl
 alone_passes Workers rows pending k passes = rw passes refl
 alone_passes Groups rows pending k passes = rw passes refl
 alone_passes Mode rows pending k passes = rw passes refl
+alone_passes Log rows pending k passes = rw passes refl
 
 pub alone_step : (name : OptionName) (word : Text) (rows : List Row) (k : ℕ) (w : Walk) → Ready rows k w → word ≡ word_of name
     → (turn_passes top [] w word ≡ true) × Waits name rows k (walked rules [] w word)
@@ -230,12 +238,14 @@ attached_passes Cert value rows pending k passes absent = rw (passes, absent) re
 attached_passes Workers value rows pending k passes absent = rw (passes, absent) refl
 attached_passes Groups value rows pending k passes absent = rw (passes, absent) refl
 attached_passes Mode value rows pending k passes absent = rw (passes, absent) refl
+attached_passes Log value rows pending k passes absent = rw (passes, absent) refl
 
 used_option : (name : OptionName) (v : Text) (rows : List Row) → has_row (id_of name) rows ≡ false → used (rule_for name) (v ∷ []) rows ≡ rows ++ found (id_of name) v ∷ []
 used_option Cert v rows absent = used_absent (codes "cert") (rule_for Cert) v rows refl refl refl absent
 used_option Workers v rows absent = used_absent (codes "workers") (rule_for Workers) v rows refl refl refl absent
 used_option Groups v rows absent = used_absent (codes "groups") (rule_for Groups) v rows refl refl refl absent
 used_option Mode v rows absent = used_absent (codes "mode") (rule_for Mode) v rows refl refl refl absent
+used_option Log v rows absent = used_absent (codes "log") (rule_for Log) v rows refl refl refl absent
 
 pub attached_step : (name : OptionName) (value word : Text) (rows : List Row) (k : ℕ) (w : Walk) → Ready rows k w → word ≡ start_of name ++ value → has_row (id_of name) rows ≡ false
     → (turn_passes top [] w word ≡ true) × Ready (rows ++ found (id_of name) value ∷ []) k (walked rules [] w word)

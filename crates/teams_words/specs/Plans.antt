@@ -5,7 +5,7 @@ use Rattle.std.specs.Str.{bytes_eq}
 use Rattle.std.specs.Char.{is_ascii_digit}
 use Rattle.teams_words.specs.declared.plan.Plan.{Plan}
 use Rattle.teams_words.specs.declared.plan.Action.{Action}
-use Rattle.teams_words.specs.declared.plan.Action.TheVariants.{Solve, Check, Matrix, Figures, Sample}
+use Rattle.teams_words.specs.declared.plan.Action.TheVariants.{Solve, Check, Matrix, Figures, Sample, Reason}
 use Rattle.teams_words.specs.Words.{Parts, parts_in}
 
 -- the action, MODEL, and the value of each option that is given
@@ -16,6 +16,7 @@ pub record Chosen : Type 0 where
   pub workers : Option (List ℕ)
   pub groups : Option (List ℕ)
   pub mode : Option (List ℕ)
+  pub log : Option (List ℕ)
 
 -- at most one value
 abbrev pub is_once : List (List ℕ) → Bool
@@ -27,7 +28,7 @@ first_of (value ∷ rest) = Some value
 
 -- no option is given twice
 abbrev pub are_once : Parts → Bool
-are_once p = is_once p.cert && (is_once p.workers && (is_once p.groups && is_once p.mode))
+are_once p = is_once p.cert && (is_once p.workers && (is_once p.groups && (is_once p.mode && is_once p.log)))
 
 -- the other words are the action and MODEL
 abbrev pub chosen_from : List (List ℕ) → Parts → Option Chosen
@@ -38,6 +39,7 @@ chosen_from (action ∷ model ∷ []) p = Some (record {
   workers = first_of p.workers;
   groups = first_of p.groups;
   mode = first_of p.mode;
+  log = first_of p.log;
 })
 chosen_from _ p = None
 
@@ -56,7 +58,8 @@ action_of word =
     (cond (bytes_eq word (codes "check")) (Some Check)
     (cond (bytes_eq word (codes "matrix")) (Some Matrix)
     (cond (bytes_eq word (codes "figures")) (Some Figures)
-    (cond (bytes_eq word (codes "sample")) (Some Sample) None))))
+    (cond (bytes_eq word (codes "sample")) (Some Sample)
+    (cond (bytes_eq word (codes "reason")) (Some Reason) None)))))
 
 -- the value of decimal digits, behind the number n
 abbrev pub value_after : ℕ → List ℕ → ℕ
@@ -98,16 +101,18 @@ count_or usual (Some word) = value_of word
 
 -- only `--mode` is given, or nothing
 abbrev pub is_mode_alone : Chosen → Bool
-is_mode_alone c = not (is_some c.cert) && (not (is_some c.workers) && not (is_some c.groups))
+is_mode_alone c = not (is_some c.cert) && (not (is_some c.workers) && (not (is_some c.groups) && not (is_some c.log)))
 
--- the action takes what is chosen: `solve` all options but `--cert`, `check` needs `--cert` and takes `--mode`, `matrix` and
--- `figures` take `--mode`, and `sample` takes `--groups` and its MODEL is a number of parts
+-- the action takes what is chosen: `solve` takes `--workers`, `--groups` and `--mode`, `check` needs `--cert` and takes `--mode`,
+-- `matrix` and `figures` take `--mode`, `sample` takes `--groups` and its MODEL is a number of parts, and `reason` needs `--log` and
+-- takes `--mode`
 abbrev pub takes : Action → Chosen → Bool
-takes Solve c = not (is_some c.cert)
-takes Check c = is_some c.cert && (not (is_some c.workers) && not (is_some c.groups))
+takes Solve c = not (is_some c.cert) && not (is_some c.log)
+takes Check c = is_some c.cert && (not (is_some c.workers) && (not (is_some c.groups) && not (is_some c.log)))
 takes Matrix c = is_mode_alone c
 takes Figures c = is_mode_alone c
-takes Sample c = is_number 1 most_parts c.model && (not (is_some c.cert) && (not (is_some c.workers) && not (is_some c.mode)))
+takes Sample c = is_number 1 most_parts c.model && (not (is_some c.cert) && (not (is_some c.workers) && (not (is_some c.mode) && not (is_some c.log))))
+takes Reason c = is_some c.log && (not (is_some c.cert) && (not (is_some c.workers) && not (is_some c.groups)))
 
 -- the numbers of workers and of groups are within their limits
 abbrev pub are_counts : Chosen → Bool
@@ -121,6 +126,7 @@ plan_with action c = record {
   workers = count_or usual_workers c.workers;
   groups = count_or usual_groups c.groups;
   mode = c.mode;
+  log = c.log;
 }
 
 abbrev pub plan_by : Option Action → Chosen → Option Plan
@@ -143,10 +149,11 @@ IsLimit groups = (1 ≤ groups) × (groups ≤ most_groups)
 abbrev pub IsSize : ℕ → Type 0
 IsSize parts = (1 ≤ parts) × (parts ≤ most_parts)
 
--- a plan that words can give: its numbers are within their limits, `check` has a certificate, and `sample` has a number of
--- parts
+-- a plan that words can give: its numbers are within their limits, `check` has a certificate, `sample` has a number of parts,
+-- and `reason` has a log
 pub record IsProper (plan : Plan) : Type 0 where
   pub workers : plan.workers ≤ most_workers
   pub groups : IsLimit plan.groups
   pub cert : plan.action ≡ Check → IsSome plan.cert
   pub parts : plan.action ≡ Sample → is_number 1 most_parts plan.model ≡ true
+  pub log : plan.action ≡ Reason → IsSome plan.log

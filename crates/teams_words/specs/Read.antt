@@ -28,6 +28,7 @@ parts_of p = record {
   workers = texts p.workers.items;
   groups = texts p.groups.items;
   mode = texts p.mode.items;
+  log = texts p.log.items;
   others = texts p.others.items;
 }
 
@@ -54,6 +55,7 @@ Finds (Some c) f =
     × (first_value f (codes "workers") ≡ c.workers)
     × (first_value f (codes "groups") ≡ c.groups)
     × (first_value f (codes "mode") ≡ c.mode)
+    × (first_value f (codes "log") ≡ c.log)
 
 -- what the code's choice stands for
 abbrev pub choice : CodeChosen → Chosen
@@ -64,4 +66,5 @@ choice c = record {
   workers = option_map (λ t. t.now) c.workers;
   groups = option_map (λ t. t.now) c.groups;
   mode = option_map (λ t. t.now) c.mode;
+  log = option_map (λ t. t.now) c.log;
 }

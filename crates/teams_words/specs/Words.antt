@@ -2,7 +2,7 @@
 use Rattle.std.specs.Prelude.{ℕ, Bool, false, cond, ◌&&◌, not, nat_eq, nat_lt, List, [], ◌∷◌, ◌++◌, length, take, drop, codes, Option, Some, None, option_map}
 use Rattle.std.specs.Str.{bytes_eq}
 use Rattle.teams_words.specs.declared.word.OptionName.{OptionName}
-use Rattle.teams_words.specs.declared.word.OptionName.TheVariants.{Cert, Workers, Groups, Mode}
+use Rattle.teams_words.specs.declared.word.OptionName.TheVariants.{Cert, Workers, Groups, Mode, Log}
 
 -- a word that is no option: it isn't empty and doesn't begin with `-`
 abbrev pub is_plain : List ℕ → Bool
@@ -19,7 +19,8 @@ valued word =
     cond (goes_on (codes "--cert=") word) (Some (Cert, drop 7 word))
     (cond (goes_on (codes "--workers=") word) (Some (Workers, drop 10 word))
     (cond (goes_on (codes "--groups=") word) (Some (Groups, drop 9 word))
-    (cond (goes_on (codes "--mode=") word) (Some (Mode, drop 7 word)) None)))
+    (cond (goes_on (codes "--mode=") word) (Some (Mode, drop 7 word))
+    (cond (goes_on (codes "--log=") word) (Some (Log, drop 6 word)) None))))
 
 -- the option in `--NAME`
 abbrev pub named : List ℕ → Option OptionName
@@ -27,7 +28,8 @@ named word =
     cond (bytes_eq word (codes "--cert")) (Some Cert)
     (cond (bytes_eq word (codes "--workers")) (Some Workers)
     (cond (bytes_eq word (codes "--groups")) (Some Groups)
-    (cond (bytes_eq word (codes "--mode")) (Some Mode) None)))
+    (cond (bytes_eq word (codes "--mode")) (Some Mode)
+    (cond (bytes_eq word (codes "--log")) (Some Log) None))))
 
 -- the values of each option, and the other words, each list in the order of the words
 pub record Parts : Type 0 where
@@ -35,10 +37,11 @@ pub record Parts : Type 0 where
   pub workers : List (List ℕ)
   pub groups : List (List ℕ)
   pub mode : List (List ℕ)
+  pub log : List (List ℕ)
   pub others : List (List ℕ)
 
 abbrev pub no_parts : Parts
-no_parts = record { cert = []; workers = []; groups = []; mode = []; others = [] }
+no_parts = record { cert = []; workers = []; groups = []; mode = []; log = []; others = [] }
 
 -- one value of an option
 abbrev pub value_part : OptionName → List ℕ → Parts
@@ -46,6 +49,7 @@ value_part Cert value = record no_parts { cert = value ∷ [] }
 value_part Workers value = record no_parts { workers = value ∷ [] }
 value_part Groups value = record no_parts { groups = value ∷ [] }
 value_part Mode value = record no_parts { mode = value ∷ [] }
+value_part Log value = record no_parts { log = value ∷ [] }
 
 -- one other word
 abbrev pub other_part : List ℕ → Parts
@@ -58,6 +62,7 @@ joined p q = record {
   workers = p.workers ++ q.workers;
   groups = p.groups ++ q.groups;
   mode = p.mode ++ q.mode;
+  log = p.log ++ q.log;
   others = p.others ++ q.others;
 }
 

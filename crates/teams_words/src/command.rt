@@ -1,4 +1,4 @@
-//! The one command that is handed to `clap`: two words, and four options that take one value each. It has no help
+//! The one command that is handed to `clap`: two words, and five options that take one value each. It has no help
 //! flags, no defaults and no rule of one option on another, so what it finds in the words of a plan is known, and
 //! only memory can fail.
 ghost use Rattle.std.specs.Prelude.{◌≡◌, IfOk, IfErr, map, string_bytes, true, is_some};
@@ -43,7 +43,8 @@ fn teams_command<'a>(alloc: Global) -> Result<Command<'a>, AllocError>
     let command = with_option(alloc, command, "cert")?;
     let command = with_option(alloc, command, "workers")?;
     let command = with_option(alloc, command, "groups")?;
-    with_option(alloc, command, "mode")
+    let command = with_option(alloc, command, "mode")?;
+    with_option(alloc, command, "log")
 }
 
 /// What `clap` finds in words of the form of a command line.

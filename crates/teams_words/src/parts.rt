@@ -13,6 +13,7 @@ pub struct Parts<'a> {
     pub workers: Vec<&'a str>,
     pub groups: Vec<&'a str>,
     pub mode: Vec<&'a str>,
+    pub log: Vec<&'a str>,
     pub others: Vec<&'a str>,
 }
 
@@ -25,6 +26,7 @@ impl<'a> Parts<'a> {
             OptionName::Workers => self.workers.push(value)?,
             OptionName::Groups => self.groups.push(value)?,
             OptionName::Mode => self.mode.push(value)?,
+            OptionName::Log => self.log.push(value)?,
         }
         Ok(())
     }
@@ -78,6 +80,7 @@ pub fn read_parts<'a>(alloc: Global, words: &'a [String]) -> Result<Option<Parts
             workers: Vec::new(alloc),
             groups: Vec::new(alloc),
             mode: Vec::new(alloc),
+            log: Vec::new(alloc),
             others: Vec::new(alloc),
         },
         waits: None,

@@ -19,6 +19,8 @@ pub enum Action {
     Figures,
     /// Solve a chain of parts that the program makes itself, and print a summary.
     Sample,
+    /// Say which faults may be present, given which tests passed and which failed.
+    Reason,
 }
 
 /// What the words of a command line ask for.
@@ -35,6 +37,8 @@ pub struct Plan {
     pub groups: u32,
     /// The mode to which the tests are limited.
     pub mode: Option<Text>,
+    /// The name of a log's file.
+    pub log: Option<Text>,
 }
 
 impl Plan {

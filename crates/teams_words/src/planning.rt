@@ -20,6 +20,7 @@ fn is_choice(parts: &Parts) -> bool
         && parts.workers.len() <= 1
         && parts.groups.len() <= 1
         && parts.mode.len() <= 1
+        && parts.log.len() <= 1
         && parts.others.len() == 2
 }
 
@@ -32,6 +33,7 @@ pub struct Chosen<'a> {
     workers: Option<&'a str>,
     groups: Option<&'a str>,
     mode: Option<&'a str>,
+    log: Option<&'a str>,
 }
 
 fn action_of(word: &str) -> Option<Action>
@@ -43,6 +45,7 @@ fn action_of(word: &str) -> Option<Action>
         "matrix" => Some(Action::Matrix),
         "figures" => Some(Action::Figures),
         "sample" => Some(Action::Sample),
+        "reason" => Some(Action::Reason),
         _ => None,
     }
 }
@@ -51,7 +54,10 @@ fn action_of(word: &str) -> Option<Action>
 fn is_mode_alone(chosen: &Chosen) -> bool
     ensures { result ≡ is_mode_alone (choice chosen.now) }
 {
-    chosen.cert.is_none() && chosen.workers.is_none() && chosen.groups.is_none()
+    chosen.cert.is_none()
+        && chosen.workers.is_none()
+        && chosen.groups.is_none()
+        && chosen.log.is_none()
 }
 
 /// Whether the action takes what is chosen.
@@ -59,9 +65,12 @@ fn takes(action: Action, chosen: &Chosen) -> bool
     ensures { result ≡ takes action (choice chosen.now) }
 {
     match action {
-        Action::Solve => chosen.cert.is_none(),
+        Action::Solve => chosen.cert.is_none() && chosen.log.is_none(),
         Action::Check => {
-            chosen.cert.is_some() && chosen.workers.is_none() && chosen.groups.is_none()
+            chosen.cert.is_some()
+                && chosen.workers.is_none()
+                && chosen.groups.is_none()
+                && chosen.log.is_none()
         }
         Action::Matrix | Action::Figures => is_mode_alone(chosen),
         Action::Sample => {
@@ -69,6 +78,13 @@ fn takes(action: Action, chosen: &Chosen) -> bool
                 && chosen.cert.is_none()
                 && chosen.workers.is_none()
                 && chosen.mode.is_none()
+                && chosen.log.is_none()
+        }
+        Action::Reason => {
+            chosen.log.is_some()
+                && chosen.cert.is_none()
+                && chosen.workers.is_none()
+                && chosen.groups.is_none()
         }
     }
 }
@@ -116,6 +132,7 @@ fn plan_with(
     };
     let cert = owned(alloc, chosen.cert)?;
     let mode = owned(alloc, chosen.mode)?;
+    let log = owned(alloc, chosen.log)?;
     Ok(Plan {
         action,
         model,
@@ -123,6 +140,7 @@ fn plan_with(
         workers,
         groups,
         mode,
+        log,
     })
 }
 
@@ -166,6 +184,7 @@ fn plan_by_clap(alloc: Global, words: &[String]) -> Result<Plan, PlanFault>
                 workers: matches.get_str("workers"),
                 groups: matches.get_str("groups"),
                 mode: matches.get_str("mode"),
+                log: matches.get_str("log"),
             },
         ),
         _ => unreachable!(),
@@ -176,7 +195,7 @@ fn plan_by_clap(alloc: Global, words: &[String]) -> Result<Plan, PlanFault>
 /// most once, as `--NAME=VALUE` or as `--NAME VALUE`, where VALUE isn't empty and as a word of its own doesn't begin
 /// with `-`. `solve` takes `--workers`, `--groups` and `--mode`; `check` takes `--cert`, which has to be there, and
 /// `--mode`; `matrix` and `figures` take `--mode`; `sample` takes `--groups`, and its MODEL is a number of 1 to 100
-/// parts. Workers are 0 to 16 and 4 where nothing is said of them, groups 1 to 32,768 and 4,000 where nothing is said,
+/// parts; `reason` takes `--log`, which has to be there, and `--mode`. Workers are 0 to 16 and 4 where nothing is said of them, groups 1 to 32,768 and 4,000 where nothing is said,
 /// each in one to five decimal digits.
 pub fn plan_of(alloc: Global, words: &[String]) -> Result<Plan, PlanFault>
     ensures proper { IfOk result IsProper }

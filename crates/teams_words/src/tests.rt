@@ -30,6 +30,7 @@ fn word_for(action: Action) -> &'static str {
         Action::Matrix => "matrix",
         Action::Figures => "figures",
         Action::Sample => "sample",
+        Action::Reason => "reason",
     }
 }
 
@@ -40,15 +41,16 @@ fn text_or_none(text: &Option<Text>) -> &str {
     }
 }
 
-/// The plan in the order ACTION MODEL CERT WORKERS GROUPS MODE.
+/// The plan in the order ACTION MODEL CERT WORKERS GROUPS MODE LOG.
 fn shown(alloc: Global, plan: &Plan) -> Result<String, AllocError> {
     let action = word_for(plan.action);
     let model = plan.model.as_str();
     let cert = text_or_none(&plan.cert);
     let mode = text_or_none(&plan.mode);
+    let log = text_or_none(&plan.log);
     let workers = plan.workers;
     let groups = plan.groups;
-    format!(in alloc; "{action} {model} {cert} {workers} {groups} {mode}")
+    format!(in alloc; "{action} {model} {cert} {workers} {groups} {mode} {log}")
 }
 
 fn plan_in(alloc: Global, line: &str) -> Result<String, AllocError> {
@@ -60,18 +62,20 @@ fn plan_in(alloc: Global, line: &str) -> Result<String, AllocError> {
 }
 
 /// A command line and its plan.
-const PLANS: &str = "solve m => solve m none 4 4000 none
-solve m --workers 0 => solve m none 0 4000 none
---groups=5 solve --mode xy m --workers=016 => solve m none 16 5 xy
-solve m --groups 00001 => solve m none 4 1 none
-solve m --groups=32768 => solve m none 4 32768 none
-check m --cert c => check m c 4 4000 none
---mode=-x check --cert=a=b m => check m a=b 4 4000 -x
-matrix m --mode=\u{20ac} => matrix m none 4 4000 \u{20ac}
-figures h\u{e9} => figures h\u{e9} none 4 4000 none
-sample 3 => sample 3 none 4 4000 none
-sample --groups 20 00100 => sample 00100 none 4 20 none
-solve solve => solve solve none 4 4000 none";
+const PLANS: &str = "solve m => solve m none 4 4000 none none
+solve m --workers 0 => solve m none 0 4000 none none
+--groups=5 solve --mode xy m --workers=016 => solve m none 16 5 xy none
+solve m --groups 00001 => solve m none 4 1 none none
+solve m --groups=32768 => solve m none 4 32768 none none
+check m --cert c => check m c 4 4000 none none
+--mode=-x check --cert=a=b m => check m a=b 4 4000 -x none
+matrix m --mode=\u{20ac} => matrix m none 4 4000 \u{20ac} none
+figures h\u{e9} => figures h\u{e9} none 4 4000 none none
+sample 3 => sample 3 none 4 4000 none none
+sample --groups 20 00100 => sample 00100 none 4 20 none none
+solve solve => solve solve none 4 4000 none none
+reason m --log l => reason m none 4 4000 none l
+--log=a=b reason --mode=x m => reason m none 4 4000 x a=b";
 
 #[test]
 fn words_give_plans(rt: HostRuntime) -> Result<(), Fail> {
@@ -108,6 +112,15 @@ solve m --groups=+5
 matrix m --groups=5
 figures m --workers=0
 check m --cert=c --groups=5
+check m --cert=c --log=l
+reason m
+reason m --log=l --cert=c
+reason m --log=l --groups=5
+reason m --log=l --log=l
+reason m --log
+solve m --log=l
+matrix m --log=l
+sample 3 --log=l
 solve m --mode
 solve m --mode=
 solve m --mode 

@@ -10,6 +10,7 @@ pub enum OptionName {
     Workers,
     Groups,
     Mode,
+    Log,
 }
 
 /// The form of a word.
@@ -52,6 +53,7 @@ fn named(word: &str) -> Option<OptionName>
         "--workers" => Some(OptionName::Workers),
         "--groups" => Some(OptionName::Groups),
         "--mode" => Some(OptionName::Mode),
+        "--log" => Some(OptionName::Log),
         _ => None,
     }
 }
@@ -81,6 +83,12 @@ pub fn word_of(word: &str) -> Word<'_>
     if let Some(value) = rest_after(word, "--mode=") {
         return Word::Valued {
             name: OptionName::Mode,
+            value,
+        };
+    }
+    if let Some(value) = rest_after(word, "--log=") {
+        return Word::Valued {
+            name: OptionName::Log,
             value,
         };
     }

@@ -5,7 +5,7 @@ use Rattle.teams_words.proofs.Joined.{with_none, refused_by}
 use Rattle.teams_words.proofs.parts.read_parts.Goals as goal
 
 pub loop-word-init : goal.loop-word-init
-loop-word-init c = rw (c.new.ensures.items, c.new-2.ensures.items, c.new-3.ensures.items, c.new-4.ensures.items, c.new-5.ensures.items) (sym (with_none _))
+loop-word-init c = rw (c.new.ensures.items, c.new-2.ensures.items, c.new-3.ensures.items, c.new-4.ensures.items, c.new-5.ensures.items, c.new-6.ensures.items) (sym (with_none _))
 
 pub returns-then-not-branch : goal.returns-then-not-branch
 returns-then-not-branch c =

@@ -16,11 +16,12 @@ returns-clause-found c =
       workers = c.get_str-in-Some-Some-2.result;
       groups = c.get_str-in-Some-Some-3.result;
       mode = c.get_str-in-Some-Some-4.result;
+      log = c.get_str-in-Some-Some-5.result;
     }) in
     let same = same_choice (chosen_in (map string_bytes c.args.words.now)) (found_of c.in-Ok.matches) k c.requires c.in-Ok.ensures.found
     (sym c.get_str.ensures ∙ ap (option_map (λ (s : Bor (List ℕ)). s.now)) c.in-Some-Some.is-0)
     (sym c.get_str-2.ensures ∙ ap (option_map (λ (s : Bor (List ℕ)). s.now)) c.in-Some-Some.is-1)
-    (sym c.get_str-in-Some-Some.ensures) (sym c.get_str-in-Some-Some-2.ensures) (sym c.get_str-in-Some-Some-3.ensures) (sym c.get_str-in-Some-Some-4.ensures) in
+    (sym c.get_str-in-Some-Some.ensures) (sym c.get_str-in-Some-Some-2.ensures) (sym c.get_str-in-Some-Some-3.ensures) (sym c.get_str-in-Some-Some-4.ensures) (sym c.get_str-in-Some-Some-5.ensures) in
     IfOk-weaker c.plan_for.result _ _ (λ plan is. ap (option_and_then plan_for) same ∙ is) c.plan_for.ensures.found
 
 pub returns-clause-usage : goal.returns-clause-usage
@@ -32,9 +33,10 @@ returns-clause-usage c = λ usage.
       workers = c.get_str-in-Some-Some-2.result;
       groups = c.get_str-in-Some-Some-3.result;
       mode = c.get_str-in-Some-Some-4.result;
+      log = c.get_str-in-Some-Some-5.result;
     }) in
     let same = same_choice (chosen_in (map string_bytes c.args.words.now)) (found_of c.in-Ok.matches) k c.requires c.in-Ok.ensures.found
     (sym c.get_str.ensures ∙ ap (option_map (λ (s : Bor (List ℕ)). s.now)) c.in-Some-Some.is-0)
     (sym c.get_str-2.ensures ∙ ap (option_map (λ (s : Bor (List ℕ)). s.now)) c.in-Some-Some.is-1)
-    (sym c.get_str-in-Some-Some.ensures) (sym c.get_str-in-Some-Some-2.ensures) (sym c.get_str-in-Some-Some-3.ensures) (sym c.get_str-in-Some-Some-4.ensures) in
+    (sym c.get_str-in-Some-Some.ensures) (sym c.get_str-in-Some-Some-2.ensures) (sym c.get_str-in-Some-Some-3.ensures) (sym c.get_str-in-Some-Some-4.ensures) (sym c.get_str-in-Some-Some-5.ensures) in
     ap (option_and_then plan_for) same ∙ c.plan_for.ensures.usage usage
