@@ -74,7 +74,7 @@ fn missed_of(line: &[u8]) -> Option<MissedLine>
 }
 
 /// The missed line, where the result is bounded.
-#[tactic(auto, unfolding(crate::specs::Reading::missed_at))]
+#[tactic(auto, unfolding(crate::specs::Reading::read_missed))]
 pub(crate) fn missed_at(
     verdict: Verdict,
     at: LineReader<'_>,

@@ -10,7 +10,7 @@ ghost use Rattle.seq_cert.specs.declared.report.TreeLine.TheVariants.{Ask, Leaf}
 ghost use Rattle.seq_cert.specs.Text.{tree_words};
 ghost use Rattle.seq_cert.specs.TreeLines.{tree_lines};
 
-use seq_inst::{Answer, Group, Instance, Strategy, part};
+use seq_inst::{Group, Instance, Strategy, parts_of};
 use sig_lines::Lines;
 use std::alloc::AllocError;
 
@@ -55,8 +55,9 @@ pub(crate) fn write_tree(
         Strategy::Leaf => write_leaf(out, lowest_class(group)),
         Strategy::Ask { test, pass, fail } => {
             write_ask(out, *test)?;
-            write_tree(out, inst, pass, &part(inst, group, *test, Answer::Pass))?;
-            write_tree(out, inst, fail, &part(inst, group, *test, Answer::Fail))?;
+            let parts = parts_of(inst, group, *test);
+            write_tree(out, inst, pass, &parts.pass)?;
+            write_tree(out, inst, fail, &parts.fail)?;
             Ok(())
         }
     }

@@ -1,7 +1,7 @@
 -- Groups that are told by their words: what a map by words has at a group is what the first claim of the group's classes
 -- says.
 use Rattle.std.proofs.Common.{◌≡◌, ℕ, List, [], ◌∷◌, ◌++◌, refl, sym, ap, ◌∙◌, inl, inr, Option, Some, None}
-use Rattle.std.specs.Prelude.{Bool, true, false, cond, is_some}
+use Rattle.std.specs.Prelude.{true, false, cond, is_some}
 use Rattle.std.specs.Str.{bytes_eq}
 use Rattle.std.proofs.lemmas.Bool.{cases_Bool, true≢false}
 use Rattle.std.proofs.lemmas.List.{map-append}

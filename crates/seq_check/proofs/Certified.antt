@@ -4,6 +4,7 @@ use Rattle.std.specs.Prelude.{true, false, nat_eq, nat_le, nat_lt, All}
 use Rattle.std.proofs.lemmas.Bool.{cases_Bool, and_parts, eqb-true, false≢true}
 use Rattle.std.proofs.lemmas.Bool.Decides.{nat_tests}
 use Rattle.std.proofs.lemmas.List.Elements.{All-nil, All-cons}
+use Rattle.seq_theory.specs.Laws.{CertificateHolds}
 use Rattle.seq_theory.specs.Problem.{Problem, IsWithin, IsWeighed, AreTold, all_classes, is_end}
 use Rattle.seq_theory.specs.Tree.{tree_cost}
 use Rattle.seq_theory.specs.Claims.{Claim, IsClaim, ClaimsHold}
@@ -60,26 +61,26 @@ parts p labels r e =
     record { cost = h2.0; low = h3.0; gap = h4.0; count = h4.1; tree = d.0; groups = f.0 }
 
 -- some group line, or none
-low_groups : (p : Problem) (r : Report) (lines : List GroupLine) → IsWeighed p → AreTold p → is_end p (all_classes p) ≡ false → nat_lt 0 (length lines) ≡ true → AreGood (group_looks p (groups_at r) r.low (claims_of lines) None lines) → r.low ≤ least p (all_classes p)
-low_groups p r [] w told more some good = absurd (false≢true some)
-low_groups p r (line ∷ lines) w told more some good =
+low_groups : CertificateHolds → (p : Problem) (r : Report) (lines : List GroupLine) → IsWeighed p → AreTold p → is_end p (all_classes p) ≡ false → nat_lt 0 (length lines) ≡ true → AreGood (group_looks p (groups_at r) r.low (claims_of lines) None lines) → r.low ≤ least p (all_classes p)
+low_groups law p r [] w told more some good = absurd (false≢true some)
+low_groups law p r (line ∷ lines) w told more some good =
     let h = last_good p r.low (claims_of (line ∷ lines)) (groups_at r) None line lines more good in
     let hold = claims_hold p (groups_at r) r.low (line ∷ lines) good in
     let low = h.low_is in
     let within : IsWithin p (members (h.line).group) = subst (IsWithin p) (sym h.root) (within_all p) in
     let more' : is_end p (members (h.line).group) ≡ false = ap (is_end p) h.root ∙ more in
-    let c : (h.line).low ≤ least p (members (h.line).group) = claim-le-least p (claims_of (line ∷ lines)) (claim_at h.line) w told hold h.among within more' in
+    let c : (h.line).low ≤ least p (members (h.line).group) = claim-le-least law p (claims_of (line ∷ lines)) (claim_at h.line) w told hold h.among within more' in
     let e = ap (least p) h.root in
     omega arith
 
 -- each group line: its group is sized, so it is within the classes and has two goals or more
-module _ (p : Problem) (low : ℕ) (claims : List Claim) (w : IsWeighed p) (told : AreTold p) (hold : ClaimsHold p claims) where
+module _ (law : CertificateHolds) (p : Problem) (low : ℕ) (claims : List Claim) (w : IsWeighed p) (told : AreTold p) (hold : ClaimsHold p claims) where
   line_right : (n : ℕ) (before : Option GroupLine) (line : GroupLine) (lines : List GroupLine) → AreGood (group_look p n low claims before line lines) → IsClaim (claim_at line) claims → IsAtMostLeast p (members line.group) line.low
   unfolding group_look
   line_right n before line lines good among tree solves =
       let sized = (and_parts (is_sized p line.size line.group) (comes_after before line) good.0).0 in
       let within = sized_within p line.size line.group sized in
-      let c : line.low ≤ least p (members line.group) = claim-le-least p claims (claim_at line) w told hold among within (sized_more p line.size line.group sized) in
+      let c : line.low ≤ least p (members line.group) = claim-le-least law p claims (claim_at line) w told hold among within (sized_more p line.size line.group sized) in
       let l = (IsLeast-least p (members line.group) told within).least tree solves in
       omega arith
 
@@ -91,16 +92,16 @@ module _ (p : Problem) (low : ℕ) (claims : List Claim) (w : IsWeighed p) (told
       (line_right n before line lines both.0 (among (claim_at line) (inl refl)))
       (lows_right (n + 1) (Some line) lines both.1 (λ c i. among c (inr i)))
 
-low_right : (p : Problem) (r : Report) → IsWeighed p → AreTold p → Parts p r → r.low ≤ least p (all_classes p)
+low_right : CertificateHolds → (p : Problem) (r : Report) → IsWeighed p → AreTold p → Parts p r → r.low ≤ least p (all_classes p)
 unfolding low_looks count_looks
-low_right p r w told ps = elim (cases_Bool (is_end p (all_classes p))) [
+low_right law p r w told ps = elim (cases_Bool (is_end p (all_classes p))) [
   | inl one ↦
       (let z : nat_eq r.low 0 ≡ true = rw one at (ps.low.1.0) in
       let e = eqb-true r.low 0 z in
       omega arith)
   | inr more ↦
       (let s : nat_lt 0 (length r.groups) ≡ true = rw more at (ps.count.1.0) in
-      low_groups p r r.groups w told more s ps.groups)
+      low_groups law p r r.groups w told more s ps.groups)
 ]
 
 cost_right : (p : Problem) (r : Report) → Parts p r → r.cost ≡ tree_cost p (tree_in r.tree) (all_classes p)
@@ -122,14 +123,14 @@ gap_right p r ps e =
     let z = gap_none r.verdict r.gap e s.1 in
     omega arith
 
-pub certified_shows : (p : Problem) (labels : Labels) (r : Report) → IsWeighed p → AreTold p → IsCertified p labels r → Shows p r
+pub certified_shows : CertificateHolds → (p : Problem) (labels : Labels) (r : Report) → IsWeighed p → AreTold p → IsCertified p labels r → Shows p r
 unfolding looks_at_tree
-certified_shows p labels r w told certified =
+certified_shows law p labels r w told certified =
     let ps = parts p labels r certified in
     let d = good_draws p (tree_at r) (all_classes p) r.tree ps.tree in
     let cost = cost_right p r ps in
     let l = IsLeast-least p (all_classes p) told (within_all p) in
-    let low = low_right p r w told ps in
+    let low = low_right law p r w told ps in
     let high : least p (all_classes p) ≤ tree_cost p (tree_in r.tree) (all_classes p) = l.least (tree_in r.tree) d.solves in
     record {
       tree = tree_in r.tree;
@@ -141,5 +142,5 @@ certified_shows p labels r w told certified =
       low = low;
       high = omega arith;
       optimal = λ e. let g = gap_right p r ps e in omega arith;
-      groups = lows_right p r.low (claims_of r.groups) w told (claims_hold p (groups_at r) r.low r.groups ps.groups) (groups_at r) None r.groups ps.groups (λ c i. i);
+      groups = lows_right law p r.low (claims_of r.groups) w told (claims_hold p (groups_at r) r.low r.groups ps.groups) (groups_at r) None r.groups ps.groups (λ c i. i);
     }

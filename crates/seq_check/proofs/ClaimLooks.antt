@@ -5,11 +5,11 @@ use Rattle.std.proofs.lemmas.Bool.{and_parts, eqb-true}
 use Rattle.std.proofs.lemmas.Bool.Decides.{nat_tests}
 use Rattle.seq_theory.specs.Problem.{Problem, IsWithin, IsWeighed, AreTold, all_classes, is_end}
 use Rattle.seq_theory.specs.Graph.{same_group}
+use Rattle.seq_theory.specs.Laws.{CertificateHolds}
 use Rattle.seq_theory.specs.Claims.{Claim, IsClaim, claimed, ClaimsHold}
-use Rattle.seq_theory.proofs.LeastLaws.{least}
+use Rattle.seq_theory.proofs.LeastLaws.{least, IsLeast-least}
 use Rattle.seq_theory.proofs.GreedyLaws.{bound-le-least, least_of-steps-le}
 use Rattle.seq_theory.proofs.RowLaws.{same_group-true}
-use Rattle.seq_theory.proofs.ClaimLaws.{claimed-le-least}
 use Rattle.seq_inst.specs.Members.{members}
 use Rattle.seq_cert.specs.declared.report.GroupLine.{GroupLine}
 use Rattle.seq_check.specs.Looks.{AreGood}
@@ -20,11 +20,11 @@ at_most : (a b : ℕ) → nat_le a b ≡ true → a ≤ b
 at_most a b e = grind (arith, nat_tests)
 
 -- each claim of a group of two goals or more is at most its least cost
-pub claim-le-least : (p : Problem) (claims : List Claim) (c : Claim) → IsWeighed p → AreTold p → ClaimsHold p claims → IsClaim c claims → IsWithin p c.group → is_end p c.group ≡ false → c.low ≤ least p c.group
-claim-le-least p claims c w told hold among within more =
+pub claim-le-least : CertificateHolds → (p : Problem) (claims : List Claim) (c : Claim) → IsWeighed p → AreTold p → ClaimsHold p claims → IsClaim c claims → IsWithin p c.group → is_end p c.group ≡ false → c.low ≤ least p c.group
+claim-le-least law p claims c w told hold among within more =
     let h = hold c among in
     let b = bound-le-least p c.group w told within in
-    let s = least_of-steps-le p (claimed p claims) c.group told within more (λ part lt wp. claimed-le-least p claims hold part w told wp) in
+    let s = least_of-steps-le p (claimed p claims) c.group told within more (λ part lt wp. law p claims part (least p part) w told hold wp (IsLeast-least p part told wp)) in
     omega arith
 
 module _ (p : Problem) (low : ℕ) (claims : List Claim) where

@@ -4,8 +4,8 @@ use Rattle.std.specs.Prelude.{Bool, true, false, not, ◌&&◌, nat_eq, nat_lt}
 use Rattle.std.specs.List.{list_all}
 use Rattle.std.proofs.lemmas.Bool.{and_parts, cases_Bool, cases_lt, lt-ltb, false≢true}
 use Rattle.std.proofs.lemmas.Bool.Decides.{nat_tests}
-use Rattle.seq_theory.specs.Problem.{Problem, IsIn, IsWithin, is_end, count_up}
-use Rattle.seq_inst.specs.Members.{members, members_below, has_class, IsFirstFrom, HasNoneFrom}
+use Rattle.seq_theory.specs.Problem.{Problem, IsIn, IsWithin, is_end}
+use Rattle.seq_inst.specs.Members.{members, has_class, IsFirstFrom, HasNoneFrom}
 use Rattle.seq_inst.specs.declared.group.Group.{Group}
 use Rattle.seq_theory.proofs.BelowLaws.{IsIn-passing, passing-passes, passing-below}
 use Rattle.seq_check.specs.GroupLooks.{is_sized}

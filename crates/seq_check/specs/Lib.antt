@@ -8,3 +8,4 @@ pub mod GroupLooks
 pub mod Listed
 pub mod Lines
 pub mod Shown
+pub mod Laws

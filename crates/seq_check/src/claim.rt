@@ -4,13 +4,13 @@
 //! look-up; so where neither part of a test is listed, an estimate of the sum that takes no bound comes
 //! first, and where it is as much as the line claims, it is enough.
 ghost use Rattle.std.specs.Prelude.{◌≡◌, ◌<◌, List, true, cond, nat_le, unwrap_or, vec_len};
-ghost use Rattle.seq_theory.specs.Problem.{IsWithin, is_end, splits as is_split, weight_of as weight_sum};
+ghost use Rattle.seq_theory.specs.Problem.{is_end, splits as is_split, weight_of as weight_sum};
 ghost use Rattle.seq_theory.specs.Bound.{bound as bound_of, step_sum};
 ghost use Rattle.seq_theory.specs.Claims.{claim_of, claimed};
 ghost use Rattle.seq_inst.specs.Members.{members};
-ghost use Rattle.seq_inst.specs.Instances.{problem_of};
-ghost use Rattle.seq_huff.specs.Orders.{IsOrderOf};
-ghost use Rattle.seq_huff.specs.Estimates.{IsEstimateOf};
+ghost use Rattle.seq_inst.specs.Instances.{problem_of, IsGroupOf};
+ghost use Rattle.seq_huff.specs.Orders.{IsOrderFor};
+ghost use Rattle.seq_huff.specs.Estimates.{IsEstimateFor};
 ghost use Rattle.seq_cert.specs.declared.report.GroupLine.{GroupLine as Line};
 ghost use Rattle.seq_check.specs.GroupLooks.{claims_of, most_claimed};
 ghost use Rattle.seq_check.specs.Listed.{AreLows};
@@ -18,7 +18,7 @@ ghost use Rattle.seq_check.specs.Listed.{AreLows};
 use crate::lows::Lows;
 use seq_cert::GroupLine;
 use seq_huff::{Estimate, Order, Scratch, ordered_bound};
-use seq_inst::{Answer, Group, Instance, group_stands, is_leaf, part, splits, weight_of};
+use seq_inst::{Group, Instance, group_stands, is_leaf, parts_of, splits, weight_of};
 
 /// The low that the first line of the group claims, if it is listed.
 fn listed(lows: &Lows, group: &Group) -> Option<u64>
@@ -39,8 +39,8 @@ fn counted(
     group: &Group,
     listed: Option<u64>,
 ) -> u64
-    requires order { IsOrderOf (problem_of inst.now) order.now }
-    requires within { IsWithin (problem_of inst.now) (members group.now) }
+    requires order { IsOrderFor inst.now order.now }
+    requires within { IsGroupOf inst.now group.now }
     ensures { result ≡ cond (is_end (problem_of inst.now) (members group.now)) 0 (unwrap_or listed (bound_of (problem_of inst.now) (members group.now))) }
 {
     if is_leaf(inst, group) {
@@ -64,25 +64,24 @@ fn is_reached(
     test: u32,
     low: u64,
 ) -> bool
-    requires order { IsOrderOf (problem_of inst.now) order.now }
-    requires within { IsWithin (problem_of inst.now) (members group.now) }
-    requires estimate { IsEstimateOf (problem_of inst.now) (members group.now) estimate.now }
+    requires order { IsOrderFor inst.now order.now }
+    requires within { IsGroupOf inst.now group.now }
+    requires estimate { IsEstimateFor inst.now group.now estimate.now }
     requires weight { weight ≡ weight_sum (problem_of inst.now) (members group.now) }
     requires there { test < vec_len inst.now.costs }
     requires splits { is_split (problem_of inst.now) (members group.now) test ≡ true }
     ensures { (lines : List Line) → AreLows lows.now lines → result ≡ nat_le low (step_sum (problem_of inst.now) (claimed (problem_of inst.now) (claims_of lines)) (members group.now) test) }
 {
-    let pass_part = part(inst, group, test, Answer::Pass);
-    let fail_part = part(inst, group, test, Answer::Fail);
-    let pass_low = listed(lows, &pass_part);
-    let fail_low = listed(lows, &fail_part);
+    let parts = parts_of(inst, group, test);
+    let pass_low = listed(lows, &parts.pass);
+    let fail_low = listed(lows, &parts.fail);
     if pass_low.is_none() && fail_low.is_none() {
         if low <= estimate.least_sum(order, inst, group, test) {
             return true;
         }
     }
-    let pass = counted(scratch, order, inst, &pass_part, pass_low);
-    let fail = counted(scratch, order, inst, &fail_part, fail_low);
+    let pass = counted(scratch, order, inst, &parts.pass, pass_low);
+    let fail = counted(scratch, order, inst, &parts.fail, fail_low);
     let first = u128::from(inst.costs[test as usize]) * u128::from(weight);
     u128::from(low) <= first + (u128::from(pass) + u128::from(fail))
 }
@@ -96,8 +95,8 @@ pub fn is_allowed(
     lows: &Lows,
     line: &GroupLine,
 ) -> bool
-    requires order { IsOrderOf (problem_of inst.now) order.now }
-    requires within { IsWithin (problem_of inst.now) (members line.now.group) }
+    requires order { IsOrderFor inst.now order.now }
+    requires within { IsGroupOf inst.now line.now.group }
     ensures { (lines : List Line) → AreLows lows.now lines → result ≡ nat_le line.now.low (most_claimed (problem_of inst.now) (claims_of lines) (members line.now.group)) }
 {
     let group = &line.group;

@@ -4,7 +4,7 @@
 //! bound where the part is not listed.
 ghost use Rattle.std.specs.Prelude.{◌≡◌, ◌+◌, ◌^◌, ◌<◌, List, [], None, length, IsTrue};
 ghost use Rattle.seq_inst.specs.Instances.{problem_of};
-ghost use Rattle.seq_huff.specs.Orders.{IsOrderOf};
+ghost use Rattle.seq_huff.specs.Orders.{IsOrderFor};
 ghost use Rattle.seq_cert.specs.declared.report.GroupLine.{GroupLine as Line};
 ghost use Rattle.seq_check.specs.Looks.{first_bad};
 ghost use Rattle.seq_check.specs.GroupLooks.{claims_of, group_look, group_looks};
@@ -32,7 +32,7 @@ fn first_in_group(
     behind: &[GroupLine],
     number: u32,
 ) -> Option<BadLine>
-    requires { IsOrderOf (problem_of inst.now) order.now }
+    requires { IsOrderFor inst.now order.now }
     ensures { (lines : List Line) → AreLows lows.now lines → result ≡ first_bad (group_look (problem_of inst.now) number low (claims_of lines) before line.now behind.now) }
 {
     if !is_sized(inst, line.size, &line.group) || !does_follow(before, line) {
@@ -58,7 +58,7 @@ pub fn first_in_groups(
     lines: &[GroupLine],
     line: u32,
 ) -> Option<BadLine>
-    requires order { IsOrderOf (problem_of inst.now) order.now }
+    requires order { IsOrderFor inst.now order.now }
     requires lows { AreLows lows.now lines.now }
     requires fits { line + length lines.now < 2 ^ 32 }
     ensures { result ≡ first_bad (group_looks (problem_of inst.now) line low (claims_of lines.now) None lines.now) }

@@ -17,6 +17,7 @@ mod gap;
 mod groups;
 mod head;
 mod last;
+mod laws;
 mod looking;
 mod lows;
 mod missed;
@@ -26,6 +27,7 @@ mod report_check;
 mod sized;
 mod tree;
 
+pub use laws::certified_holds;
 pub use report_check::check;
 
 #[cfg(test)]

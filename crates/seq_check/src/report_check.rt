@@ -23,6 +23,7 @@ use crate::tree::{Walked, walk};
 use seq_cert::{BadLine, Report, ReportFault};
 use seq_huff::{Order, Scratch};
 use seq_inst::{Instance, Verdict};
+use seq_theory::certificate_holds;
 use sig_lines::Labels;
 use std::alloc::{AllocError, Global};
 
@@ -154,6 +155,7 @@ pub fn check(
     // cost lies between its low and its cost, and is the cost where it says optimal.
     ensures shows { IfOk result (λ v. Shows (problem_of inst.now) report.now) }
 {
+    certificate_holds();
     let bad = first_bad_line(alloc, inst, labels, report)?;
     match bad {
         Some(bad) => Err(ReportFault::Bad(bad)),

@@ -3,17 +3,17 @@
 //! both parts in its place. What a test costs over its group is added up on the way, so a strategy is
 //! never built.
 ghost use Rattle.std.specs.Prelude.{◌≡◌, ◌+◌, ◌^◌, ◌<◌, ◌≤◌, ◌∷◌, [], true, length, IfOk, OnOk};
-ghost use Rattle.seq_theory.specs.Problem.{all_classes, IsWithin};
+ghost use Rattle.seq_theory.specs.Problem.{all_classes};
 ghost use Rattle.seq_theory.specs.Tree.{tree_cost};
 ghost use Rattle.seq_inst.specs.Members.{members};
-ghost use Rattle.seq_inst.specs.Instances.{problem_of};
+ghost use Rattle.seq_inst.specs.Instances.{problem_of, IsGroupOf};
 ghost use Rattle.seq_check.specs.Looks.{first_bad};
 ghost use Rattle.seq_check.specs.TreesIn.{tree_in};
 ghost use Rattle.seq_check.specs.TreeLooks.{settles, left_after, tree_looks};
 ghost use Rattle.seq_check.specs.Walked.{IsWalked, waiting, line_cost, AreWithin};
 
 use seq_cert::{BadCode, BadLine, TreeLine, lowest_class};
-use seq_inst::{Answer, Group, Instance, is_leaf, part, root, splits, weight_of};
+use seq_inst::{Group, Instance, is_leaf, parts_of, root, splits, weight_of};
 use std::alloc::{AllocError, Global};
 
 /// What a walk over the tree lines finds.
@@ -45,7 +45,7 @@ fn settle(
     line: TreeLine,
 ) -> Result<u128, AllocError>
     requires settles { settles (problem_of inst.now) (members group.now) line ≡ true }
-    requires within { IsWithin (problem_of inst.now) (members group.now) }
+    requires within { IsGroupOf inst.now group.now }
     requires all_within { AreWithin (problem_of inst.now) stack.old.items }
     ensures left { OnOk result (waiting stack.new.items ≡ left_after (problem_of inst.now) (members group.now) line (waiting stack.old.items)) }
     ensures within { OnOk result (AreWithin (problem_of inst.now) stack.new.items) }
@@ -55,8 +55,9 @@ fn settle(
     match line {
         TreeLine::Leaf { .. } => Ok(0),
         TreeLine::Ask { test } => {
-            stack.push(part(inst, group, test, Answer::Fail))?;
-            stack.push(part(inst, group, test, Answer::Pass))?;
+            let parts = parts_of(inst, group, test);
+            stack.push(parts.fail)?;
+            stack.push(parts.pass)?;
             Ok(u128::from(inst.costs[test as usize]) * u128::from(weight_of(inst, group)))
         }
     }

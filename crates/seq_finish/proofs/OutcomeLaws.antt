@@ -9,7 +9,7 @@ use Rattle.seq_theory.specs.Tree.{Tree, AsksOnly, tree_cost, Solves}
 use Rattle.seq_theory.specs.Graph.{same_group, is_entered, low, val, strat, IsReal}
 use Rattle.seq_theory.specs.Rows.{Row as PlainRow, IsRow, AreDistinct, IsSound}
 use Rattle.seq_theory.proofs.LeastLaws.{count_up-IsIn}
-use Rattle.seq_theory.proofs.PublicLaws.{entered_holds}
+use Rattle.seq_theory.specs.Laws.{EnteredHolds}
 use Rattle.seq_theory.proofs.RowLaws.{same_group-refl, or-left, or-right, wanted-within}
 use Rattle.seq_theory.proofs.ValLaws.{val-end, val-entered, least-le-val}
 use Rattle.seq_theory.proofs.LowLaws.{low-le-least}
@@ -45,9 +45,9 @@ different e = cc
 
 -- ---- what a right outcome says ----
 
-pub outcomes_hold : OutcomesHold
-outcomes_hold p limit least o weighed told r l =
-    let e = entered_holds p (groups_in o.rows.items) (all_classes p) least weighed told (within-all p) l in
+pub outcomes_hold : EnteredHolds → OutcomesHold
+outcomes_hold law p limit least o weighed told r l =
+    let e = law p (groups_in o.rows.items) (all_classes p) least weighed told (within-all p) l in
     let below : o.low ≤ least = subst (λ n. n ≤ least) r.low_is e.low_low in
     let above : least ≤ o.cost = e.val_high o.cost r.cost_is in
     record {

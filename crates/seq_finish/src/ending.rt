@@ -5,17 +5,17 @@ ghost use Rattle.seq_theory.specs.Tree.{AsksOnly};
 ghost use Rattle.seq_theory.specs.Graph.{is_entered, low, val};
 ghost use Rattle.seq_theory.specs.Rows.{IsSound};
 ghost use Rattle.seq_inst.specs.Instances.{problem_of};
-ghost use Rattle.seq_inst.specs.Members.{members};
 ghost use Rattle.seq_inst.specs.Trees.{tree_of};
 ghost use Rattle.seq_inst.specs.Shapes.{height, leaf_count, AsksSplitting};
 ghost use Rattle.seq_core.specs.RowsOf.{rows_of as rows_from};
 ghost use Rattle.seq_core.specs.Settled.{groups_in, settled_rows};
 ghost use Rattle.seq_core.specs.Entered.{MayStop};
-ghost use Rattle.seq_graph.specs.Numbered.{AreNumbers};
-ghost use Rattle.seq_graph.specs.Known.{IsKnown};
+ghost use Rattle.seq_graph.specs.Numbered.{AreNumbersFor};
+ghost use Rattle.seq_graph.specs.Known.{IsGraphOf};
 ghost use Rattle.seq_finish.specs.Outcomes.{AreEntered, IsRightOutcome};
 ghost use Rattle.seq_finish.specs.Laws.{Stands};
 
+use crate::laws::outcomes_hold;
 use crate::places::{bounds_of, index_of};
 use crate::strategy::strategy_of;
 use seq_graph::{Graph, Numbers, settle};
@@ -79,7 +79,7 @@ pub fn finish_graph(
     mut graph: Graph,
     missed: Option<Group>,
 ) -> Result<Outcome, AllocError>
-    requires known { IsKnown (problem_of inst.now) graph }
+    requires known { IsGraphOf inst.now graph }
     requires sound { IsSound (problem_of inst.now) limit (rows_from graph.rows.items) }
     requires root { is_end (problem_of inst.now) (all_classes (problem_of inst.now)) ≡ false → is_entered (groups_in graph.rows.items) (all_classes (problem_of inst.now)) ≡ true }
     requires stopped { MayStop (problem_of inst.now) limit (groups_in graph.rows.items) missed }
@@ -108,7 +108,7 @@ fn finish_settled(
     rows: Vec<Row>,
     missed: Option<Group>,
 ) -> Result<Outcome, AllocError>
-    requires numbers { AreNumbers (problem_of inst.now) numbers }
+    requires numbers { AreNumbersFor inst.now numbers }
     requires sound { IsSound (problem_of inst.now) limit (rows_from rows.items) }
     requires root { is_end (problem_of inst.now) (all_classes (problem_of inst.now)) ≡ false → is_entered (groups_in rows.items) (all_classes (problem_of inst.now)) ≡ true }
     requires stopped { MayStop (problem_of inst.now) limit (groups_in rows.items) missed }
@@ -125,6 +125,7 @@ fn finish_settled(
 {
     let places = index_of(alloc, rows.as_slice())?;
     let all = root(inst);
+    outcomes_hold();
     let strategy = strategy_of(alloc, inst, &mut numbers, rows.as_slice(), &places, &all)?;
     let bounds = bounds_of(inst, rows.as_slice(), &places, &all);
     let verdict = verdict_of(bounds.low, bounds.cost);

@@ -3,13 +3,13 @@
 //! on in both parts. The values stand in the rows, and greedy's costs and tests in the numbers where the
 //! search has asked for them; others are worked out here, and kept as long as the numbers have room.
 ghost use Rattle.std.specs.Prelude.{◌≡◌, ◌≢◌, ◌<◌, false, All, IfOk, IsSome, vec_len};
-ghost use Rattle.seq_theory.specs.Problem.{IsWithin, is_end, weight_of as weight_sum};
+ghost use Rattle.seq_theory.specs.Problem.{is_end, weight_of as weight_sum};
 ghost use Rattle.seq_theory.specs.Greedy.{greedy_cost as cost_of_greedy};
 ghost use Rattle.seq_theory.specs.Graph.{val, is_value, step_value, value_test as lowest_test, strat};
 ghost use Rattle.seq_inst.specs.Members.{members};
-ghost use Rattle.seq_inst.specs.Instances.{problem_of};
+ghost use Rattle.seq_inst.specs.Instances.{problem_of, IsGroupOf};
 ghost use Rattle.seq_inst.specs.Trees.{tree_of};
-ghost use Rattle.seq_graph.specs.Numbered.{AreNumbers};
+ghost use Rattle.seq_graph.specs.Numbered.{AreNumbersFor};
 ghost use Rattle.seq_core.specs.Tables.{placed_groups};
 ghost use Rattle.seq_core.specs.Settled.{groups_in};
 ghost use Rattle.seq_finish.specs.Outcomes.{IsSettled};
@@ -17,9 +17,7 @@ ghost use Rattle.seq_finish.specs.Outcomes.{IsSettled};
 use crate::places::value_of;
 use seq_core::Places;
 use seq_graph::Numbers;
-use seq_inst::{
-    Answer, Group, Instance, Row, Strategy, ask_first, is_leaf, part, splits, weight_of,
-};
+use seq_inst::{Group, Instance, Row, Strategy, ask_first, is_leaf, parts_of, splits, weight_of};
 use std::alloc::{AllocError, Global};
 
 /// Whether the test, and the values of its parts, cost this together. A part without a value reaches
@@ -35,16 +33,15 @@ fn reaches(
 ) -> bool
     requires placed { places.now.placed ≡ placed_groups 0 rows.now }
     requires settled { All (IsSettled (problem_of inst.now) (groups_in rows.now)) rows.now }
-    requires within { IsWithin (problem_of inst.now) (members group.now) }
+    requires within { IsGroupOf inst.now group.now }
     requires there { test < vec_len inst.now.costs }
     requires weight { weight ≡ weight_sum (problem_of inst.now) (members group.now) }
     ensures { result ≡ is_value (step_value (problem_of inst.now) (val (problem_of inst.now) (groups_in rows.now)) (members group.now) test) (Some value) }
 {
-    let pass_part = part(inst, group, test, Answer::Pass);
-    let fail_part = part(inst, group, test, Answer::Fail);
+    let parts = parts_of(inst, group, test);
     match (
-        value_of(inst, rows, places, &pass_part),
-        value_of(inst, rows, places, &fail_part),
+        value_of(inst, rows, places, &parts.pass),
+        value_of(inst, rows, places, &parts.fail),
     ) {
         (Some(pass), Some(fail)) => {
             u64::from(inst.costs[test as usize]) * weight + (pass + fail) == value
@@ -57,7 +54,7 @@ fn reaches(
 fn value_test(inst: &Instance, rows: &[Row], places: &Places, group: &Group, value: u64) -> u32
     requires placed { places.now.placed ≡ placed_groups 0 rows.now }
     requires settled { All (IsSettled (problem_of inst.now) (groups_in rows.now)) rows.now }
-    requires within { IsWithin (problem_of inst.now) (members group.now) }
+    requires within { IsGroupOf inst.now group.now }
     requires value { val (problem_of inst.now) (groups_in rows.now) (members group.now) ≡ Some value }
     requires more { is_end (problem_of inst.now) (members group.now) ≡ false }
     requires dear { cost_of_greedy (problem_of inst.now) (members group.now) ≢ value }
@@ -82,12 +79,12 @@ pub(crate) fn strategy_of(
     places: &Places,
     group: &Group,
 ) -> Result<Strategy, AllocError>
-    requires numbers { AreNumbers (problem_of inst.now) numbers.old }
+    requires numbers { AreNumbersFor inst.now numbers.old }
     requires placed { places.now.placed ≡ placed_groups 0 rows.now }
     requires settled { All (IsSettled (problem_of inst.now) (groups_in rows.now)) rows.now }
-    requires within { IsWithin (problem_of inst.now) (members group.now) }
+    requires within { IsGroupOf inst.now group.now }
     requires valued { IsSome (val (problem_of inst.now) (groups_in rows.now) (members group.now)) }
-    ensures numbers { AreNumbers (problem_of inst.now) numbers.new }
+    ensures numbers { AreNumbersFor inst.now numbers.new }
     ensures strategy { IfOk result (λ s. tree_of s ≡ strat (problem_of inst.now) (groups_in rows.now) (members group.now)) }
 {
     if is_leaf(inst, group) {
@@ -101,9 +98,8 @@ pub(crate) fn strategy_of(
         return numbers.greedy_tree(alloc, inst, group);
     }
     let test = value_test(inst, rows, places, group, value);
-    let pass_part = part(inst, group, test, Answer::Pass);
-    let pass = strategy_of(alloc, inst, numbers, rows, places, &pass_part)?;
-    let fail_part = part(inst, group, test, Answer::Fail);
-    let fail = strategy_of(alloc, inst, numbers, rows, places, &fail_part)?;
+    let parts = parts_of(inst, group, test);
+    let pass = strategy_of(alloc, inst, numbers, rows, places, &parts.pass)?;
+    let fail = strategy_of(alloc, inst, numbers, rows, places, &parts.fail)?;
     ask_first(alloc, test, pass, fail)
 }

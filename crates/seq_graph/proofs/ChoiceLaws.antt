@@ -17,7 +17,7 @@ use Rattle.seq_inst.specs.Instances.{problem_of}
 use Rattle.seq_theory.proofs.BelowLaws.{product-le}
 use Rattle.seq_graph.specs.declared.node.Split.{Split}
 use Rattle.seq_graph.specs.declared.choice.Chosen.{Chosen}
-use Rattle.seq_graph.specs.Choice.{lesser_choice, lesser_value, IsBefore, IsLeastOf, IsChoice}
+use Rattle.seq_graph.specs.Choice.{lesser_split, lesser_value, IsBefore, IsLeastOf, IsChoice}
 
 -- ---- the evaluated test of least sum ----
 
@@ -66,9 +66,9 @@ choice-changes f xs t n c h v before = record {
     earlier s (inl l) = elim before [ inl m ↦ inl (omega arith) | inr e ↦ (let e0 = e.0 in inl (omega arith)) ]
     earlier s (inr k) = (let k0 = k.0 in let k1 = k.1 in elim before [ inl m ↦ inl (omega arith) | inr e ↦ (let e0 = e.0 in let e1 = e.1 in inr (omega arith, omega arith)) ])
 
-pub choice-more : (f : ℕ → ℕ) (xs more : List Split) (t : Split) (n : ℕ) (o : Option Chosen) → IsChoice f xs o → more ≡ xs ++ t ∷ [] → n ≡ f t.test → IsChoice f more (Some (lesser_choice o t n))
+pub choice-more : (f : ℕ → ℕ) (xs more : List Split) (t : Split) (n : ℕ) (o : Option Chosen) → IsChoice f xs o → more ≡ xs ++ t ∷ [] → n ≡ f t.test → IsChoice f more (Some (lesser_split o t n))
 choice-more f xs more t n None s e v = subst (λ l. IsLeastOf f l (record { split = t; sum = n })) (sym (e ∙ ap (λ l. l ++ t ∷ []) s)) (choice-one f t n v)
-choice-more f xs more t n (Some c) s e v = subst (λ l. IsLeastOf f l (lesser_choice (Some c) t n)) (sym e) (elim (cases_Bool (nat_lt c.sum n || (nat_eq c.sum n && nat_le c.split.test t.test))) [
+choice-more f xs more t n (Some c) s e v = subst (λ l. IsLeastOf f l (lesser_split (Some c) t n)) (sym e) (elim (cases_Bool (nat_lt c.sum n || (nat_eq c.sum n && nat_le c.split.test t.test))) [
   | inl y ↦ rw y (choice-stays f xs t n c s v (is-before c.sum n c.split.test t.test y))
   | inr o ↦ rw o (choice-changes f xs t n c s v (is-behind c.sum n c.split.test t.test o))
 ])

@@ -20,7 +20,7 @@ use Rattle.seq_huff.specs.Bounds.{greatest_cost}
 use Rattle.seq_theory.proofs.BelowLaws.{product-le}
 use Rattle.seq_theory.proofs.GreedyParts.{greedy_parts}
 use Rattle.seq_graph.specs.declared.greedy.Chosen.{Chosen}
-use Rattle.seq_graph.specs.GreedyChoice.{IsNoLater, IsEvaluated, evaluated}
+use Rattle.seq_graph.specs.GreedyChoice.{IsNoLater, IsTestWithSum, evaluated}
 use Rattle.seq_graph.specs.Numbered.{Numbered, capacity, AreNumbers, KeepsNumbers}
 
 -- ---- which comes first ----
@@ -82,7 +82,7 @@ first-pick f (x ∷ y ∷ rest) c i up all = elim i [
 pub splitting-in : (p : Problem) (group : List ℕ) (t : ℕ) → t < p.tests → splits p group t ≡ true → IsIn t (splitting p group)
 splitting-in p group t there e = IsIn-filter (splits p group) t (count_up 0 p.tests) (IsIn-count_up t 0 p.tests (omega arith) (omega arith)) e
 
-pub chosen-greedy : (p : Problem) (group : List ℕ) (c : Chosen) → IsEvaluated p group c → ((t : ℕ) → t < p.tests → splits p group t ≡ true → IsNoLater c (evaluated p group t)) → c.test ≡ greedy_test p group
+pub chosen-greedy : (p : Problem) (group : List ℕ) (c : Chosen) → IsTestWithSum p group c → ((t : ℕ) → t < p.tests → splits p group t ≡ true → IsNoLater c (evaluated p group t)) → c.test ≡ greedy_test p group
 unfolding greedy_test
 chosen-greedy p group c is all = first-pick (step_sum p (bound p) group) (splitting p group) c.test is.test (upward-filter (splits p group) 0 p.tests)
     (λ t i. (let h = all t (splitting-there p group t i) (splitting-splits p group t i) in record {
@@ -157,10 +157,10 @@ pub record FirstSoFar (p : Problem) (group : List ℕ) (before v : Numbered) (k 
   pub numbers : AreNumbers p v
   pub keeps : KeepsNumbers before v
   pub capacity : capacity v ≡ capacity before
-  pub is : IsEvaluated p group c
+  pub is : IsTestWithSum p group c
   pub each : (t : ℕ) → t < k → splits p group t ≡ true → IsNoLater c (evaluated p group t)
 
-pub first-none : (p : Problem) (group : List ℕ) (v : Numbered) (c : Chosen) → AreNumbers p v → IsEvaluated p group c → FirstSoFar p group v v 0 c
+pub first-none : (p : Problem) (group : List ℕ) (v : Numbered) (c : Chosen) → AreNumbers p v → IsTestWithSum p group c → FirstSoFar p group v v 0 c
 first-none p group v c are is = record {
   numbers = are;
   keeps = λ g n e. e;
@@ -169,7 +169,7 @@ first-none p group v c are is = record {
   each = λ t lt. absurd (let bad : ⊥ = omega arith in bad);
 }
 
-pub first-more : (p : Problem) (group : List ℕ) (before old new : Numbered) (k : ℕ) (c d : Chosen) → FirstSoFar p group before old k c → AreNumbers p new → KeepsNumbers old new → capacity new ≡ capacity old → IsEvaluated p group d → IsNoLater d c
+pub first-more : (p : Problem) (group : List ℕ) (before old new : Numbered) (k : ℕ) (c d : Chosen) → FirstSoFar p group before old k c → AreNumbers p new → KeepsNumbers old new → capacity new ≡ capacity old → IsTestWithSum p group d → IsNoLater d c
     → (splits p group k ≡ true → IsNoLater d (evaluated p group k)) → FirstSoFar p group before new (k + 1) d
 first-more p group before old new k c d i are keeps same is dc last = record {
   numbers = are;
@@ -185,10 +185,10 @@ first-more p group before old new k c d i are keeps same is dc last = record {
 }
 
 -- one of two that were evaluated was evaluated
-pub either-evaluated : (p : Problem) (group : List ℕ) (c d r : Chosen) → (r ≡ c) ⊎ (r ≡ d) → IsEvaluated p group c → IsEvaluated p group d → IsEvaluated p group r
+pub either-evaluated : (p : Problem) (group : List ℕ) (c d r : Chosen) → (r ≡ c) ⊎ (r ≡ d) → IsTestWithSum p group c → IsTestWithSum p group d → IsTestWithSum p group r
 either-evaluated p group c d r either ic id = elim either [
-  | inl e ↦ subst (IsEvaluated p group) (sym e) ic
-  | inr e ↦ subst (IsEvaluated p group) (sym e) id
+  | inl e ↦ subst (IsTestWithSum p group) (sym e) ic
+  | inr e ↦ subst (IsTestWithSum p group) (sym e) id
 ]
 
 -- ---- sums ----

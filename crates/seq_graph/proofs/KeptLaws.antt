@@ -19,7 +19,7 @@ use Rattle.seq_graph.specs.declared.node.Node.{Node}
 use Rattle.seq_graph.specs.declared.node.Split.{Split}
 use Rattle.seq_graph.specs.declared.node.Waiting.{Waiting}
 use Rattle.seq_graph.specs.Numbered.{Numbered, KeepsNumbers}
-use Rattle.seq_graph.specs.KeptOf.{HasParts, Waits, IsBelow, IsCovered, AreTestsOf, IsEvaluated, KeepsTests}
+use Rattle.seq_graph.specs.KeptOf.{HasParts, Waits, IsBelow, IsCovered, AreTestsOf, EvaluatesAt, KeepsTests}
 
 -- ---- entries of a list ----
 
@@ -140,7 +140,7 @@ module _ (p : Problem) (group : List ℕ) (before after : Numbered) (keeps : Kee
   pub parts-kept : (s : Split) → HasParts p before group s → HasParts p after group s
   parts-kept s h = record { passing = keeps (pass_part p s.test group) s.pass h.passing; failing = keeps (fail_part p s.test group) s.fail h.failing }
 
-  pub evaluated-keeps : (at : ℕ) (old new : Node) → IsEvaluated p after group at old new → KeepsTests p before after group old new
+  pub evaluated-keeps : (at : ℕ) (old new : Node) → EvaluatesAt p after group at old new → KeepsTests p before after group old new
   evaluated-keeps at old new e sum up h =
       subst (λ l. AreTestsOf p after group sum up l new.waiting.items) (sym e.splits) (subst (AreTestsOf p after group sum up (old.splits.items ++ e.split ∷ [])) (sym e.waiting) (record {
         covers = λ t i. elim (h.covers t i) [

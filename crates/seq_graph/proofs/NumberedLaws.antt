@@ -15,10 +15,11 @@ use Rattle.seq_theory.specs.Bound.{bound}
 use Rattle.seq_theory.specs.Graph.{same_group, is_entered}
 use Rattle.seq_theory.specs.Rows.{AreDistinct}
 use Rattle.seq_theory.proofs.RowLaws.{same_group-true, same_group-refl}
-use Rattle.seq_huff.specs.declared.order.Order.{Order}
 use Rattle.seq_inst.specs.Members.{SameWordsHold}
 use Rattle.seq_core.specs.Words.{AreItsWords, AreWords, classes_of}
 use Rattle.seq_graph.specs.declared.greedy.Greedy.{Greedy}
+use Rattle.seq_graph.specs.declared.memo.BoundMemo.{BoundMemo}
+use Rattle.seq_graph.specs.Memos.{IsMemoOf}
 use Rattle.seq_graph.specs.Numbered.{Numbered, HasNumber, IsGreedyOf, AreNumbers, KeepsNumbers}
 
 -- ---- elements by their places ----
@@ -151,27 +152,27 @@ pub number-more : (v : Numbered) (group : List ℕ) (b n : ℕ) → n ≡ length
 number-more v group b n e = ap (slice_get (v.groups ++ group ∷ [])) e ∙ get-last v.groups group
 
 -- the table's entries and what is kept of greedy, as they are seen
-abbrev pub numbered_from : Order → List (List ℕ × ℕ) → List (Option Greedy) → ℕ → Numbered
-numbered_from order entries greedy room = record { order = order; groups = map classes_of (keys_of entries); bounds = values_of entries; greedy = greedy; room = room }
+abbrev pub numbered_from : BoundMemo → List (List ℕ × ℕ) → List (Option Greedy) → ℕ → Numbered
+numbered_from memo entries greedy room = record { memo = memo; groups = map classes_of (keys_of entries); bounds = values_of entries; greedy = greedy; room = room }
 
-abbrev numbered : Order → List (List ℕ) → List ℕ → List (Option Greedy) → ℕ → Numbered
-numbered order groups bounds greedy room = record { order = order; groups = groups; bounds = bounds; greedy = greedy; room = room }
+abbrev numbered : BoundMemo → List (List ℕ) → List ℕ → List (Option Greedy) → ℕ → Numbered
+numbered memo groups bounds greedy room = record { memo = memo; groups = groups; bounds = bounds; greedy = greedy; room = room }
 
 -- with one more entry
-pub view-more : (order : Order) (old new : List (List ℕ × ℕ)) (words : List ℕ) (b : ℕ) (greedy more : List (Option Greedy)) (room : ℕ) → new ≡ old ++ (words, b) ∷ [] → more ≡ greedy ++ None ∷ [] → (v : Numbered)
-    → numbered_from order old greedy room ≡ v → numbered_from order new more (room - 1) ≡ with_group v (classes_of words) b
-view-more order old new words b greedy more room e m v is =
+pub view-more : (memo : BoundMemo) (old new : List (List ℕ × ℕ)) (words : List ℕ) (b : ℕ) (greedy more : List (Option Greedy)) (room : ℕ) → new ≡ old ++ (words, b) ∷ [] → more ≡ greedy ++ None ∷ [] → (v : Numbered)
+    → numbered_from memo old greedy room ≡ v → numbered_from memo new more (room - 1) ≡ with_group v (classes_of words) b
+view-more memo old new words b greedy more room e m v is =
     let groups : map classes_of (keys_of new) ≡ map classes_of (keys_of old) ++ classes_of words ∷ [] = ap (map classes_of) (keys-more old new words b e) ∙ map-append classes_of (keys_of old) (words ∷ []) in
     let bounds : values_of new ≡ values_of old ++ b ∷ [] = values-more old new words b e in
-    ap (λ l. numbered order l (values_of new) more (room - 1)) groups
-    ∙ ap (λ l. numbered order (map classes_of (keys_of old) ++ classes_of words ∷ []) l more (room - 1)) bounds
-    ∙ ap (λ l. numbered order (map classes_of (keys_of old) ++ classes_of words ∷ []) (values_of old ++ b ∷ []) l (room - 1)) m
+    ap (λ l. numbered memo l (values_of new) more (room - 1)) groups
+    ∙ ap (λ l. numbered memo (map classes_of (keys_of old) ++ classes_of words ∷ []) l more (room - 1)) bounds
+    ∙ ap (λ l. numbered memo (map classes_of (keys_of old) ++ classes_of words ∷ []) (values_of old ++ b ∷ []) l (room - 1)) m
     ∙ ap (λ (u : Numbered). with_group u (classes_of words) b) is
 
 -- more room, and nothing else
 pub numbers-room : (p : Problem) (v : Numbered) (room : ℕ) → AreNumbers p v → AreNumbers p (record v { room = room })
 numbers-room p v room are = record {
-  order = are.order;
+  memo = are.memo;
   distinct = are.distinct;
   within = are.within;
   bounds = are.bounds;
@@ -179,12 +180,23 @@ numbers-room p v room are = record {
   greedy = λ group g h. are.greedy group g (record { number = h.number; has = h.has; kept = h.kept });
 }
 
-pub numbers-reserved : (p : Problem) (order : Order) (old new : List (List ℕ × ℕ)) (greedy kept : List (Option Greedy)) (room more : ℕ) (v : Numbered) → new ≡ old → kept ≡ greedy → numbered_from order old greedy room ≡ v
-    → AreNumbers p v → AreNumbers p (numbered_from order new kept more)
-numbers-reserved p order old new greedy kept room more v e f is are =
-    subst (λ l. AreNumbers p (numbered_from order l kept more)) (sym e)
-    (subst (λ l. AreNumbers p (numbered_from order old l more)) (sym f)
-    (numbers-room p (numbered_from order old greedy room) more (subst (AreNumbers p) (sym is) are)))
+pub numbers-reserved : (p : Problem) (memo : BoundMemo) (old new : List (List ℕ × ℕ)) (greedy kept : List (Option Greedy)) (room more : ℕ) (v : Numbered) → new ≡ old → kept ≡ greedy → numbered_from memo old greedy room ≡ v
+    → AreNumbers p v → AreNumbers p (numbered_from memo new kept more)
+numbers-reserved p memo old new greedy kept room more v e f is are =
+    subst (λ l. AreNumbers p (numbered_from memo l kept more)) (sym e)
+    (subst (λ l. AreNumbers p (numbered_from memo old l more)) (sym f)
+    (numbers-room p (numbered_from memo old greedy room) more (subst (AreNumbers p) (sym is) are)))
+
+-- another memo of the problem, and nothing else
+pub numbers-memo : (p : Problem) (v : Numbered) (memo : BoundMemo) → IsMemoOf p memo → AreNumbers p v → AreNumbers p (record v { memo = memo })
+numbers-memo p v memo is are = record {
+  memo = is;
+  distinct = are.distinct;
+  within = are.within;
+  bounds = are.bounds;
+  as_many = are.as_many;
+  greedy = λ group g h. are.greedy group g (record { number = h.number; has = h.has; kept = h.kept });
+}
 
 -- what an attempt that succeeds has done
 pub inserted : {A E : Type 0} (r : Result A E) (old new : List (List ℕ × ℕ)) → IsOk r → OnOk r (new ≡ old) → new ≡ old
@@ -201,7 +213,7 @@ none-some g e = cc
 module _ (p : Problem) (v : Numbered) (are : AreNumbers p v) where
   pub numbers-more : (group : List ℕ) (b : ℕ) → is_entered v.groups group ≡ false → IsWithin p group → b ≡ bound p group → AreNumbers p (with_group v group b)
   numbers-more group b absent within is = record {
-    order = are.order;
+    memo = are.memo;
     distinct = distinct-more v.groups group are.distinct absent;
     within = λ g n e. elim (get-more v.groups group n g e) [
       | inl old ↦ are.within g n old
@@ -221,7 +233,7 @@ module _ (p : Problem) (v : Numbered) (are : AreNumbers p v) where
   -- what greedy does over a group that has a number
   pub numbers-greedy : (group : List ℕ) (n : ℕ) (k : Greedy) → HasNumber v group n → IsGreedyOf p group k → AreNumbers p (record v { greedy = set v.greedy n (Some k) })
   numbers-greedy group n k has is = record {
-    order = are.order;
+    memo = are.memo;
     distinct = are.distinct;
     within = are.within;
     bounds = are.bounds;

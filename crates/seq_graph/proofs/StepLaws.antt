@@ -1,16 +1,17 @@
 -- What a walk does at a group is allowed: a part that it enters is real, by the law of walks; a part in which it goes on is
 -- smaller; and where both parts are closed, what they count may be both raised to and capped to.
-use Rattle.std.proofs.Common.{◌≡◌, ◌≢◌, ℕ, zero, suc, ◌<◌, ◌≤◌, max, List, [], ◌∷◌, ◌++◌, length, get_or, refl, sym, ap, ◌∙◌, arith, inl, inr, subst, Option, Some, None, length-append}
+use Rattle.std.proofs.Common.{◌≡◌, ◌≢◌, ℕ, zero, suc, ◌<◌, ◌≤◌, max, List, [], ◌∷◌, ◌++◌, length, get_or, refl, sym, ap, ◌∙◌, arith, inl, inr, subst, Some, None, length-append}
 use Rattle.std.specs.Prelude.{Bool, true, false, cond}
 use Rattle.std.proofs.lemmas.Bool.{cases_Bool}
 use Rattle.seq_theory.specs.Problem.{Problem, IsWithin, is_end, splitting, pass_part, fail_part}
+use Rattle.seq_theory.specs.Laws.{WalksHold}
 use Rattle.seq_theory.specs.Bound.{bound, step_sum}
 use Rattle.seq_theory.specs.Graph.{part, IsWanted}
 use Rattle.seq_theory.specs.Rows.{Row as PlainRow, no_value, row_for, up_or, known_low, known_up}
 use Rattle.seq_theory.proofs.GreedyLaws.{bound-le-least}
 use Rattle.seq_theory.proofs.GroupLaws.{pass_part_smaller, fail_part_smaller}
 use Rattle.seq_theory.proofs.PartsRecursion.{splitting-splits, splitting-there}
-use Rattle.seq_theory.proofs.WantedLaws.{walk-wanted}
+use Rattle.seq_theory.proofs.LeastLaws.{least, IsLeast-least, IsLeast-one}
 use Rattle.seq_inst.specs.declared.group.Group.{Group}
 use Rattle.seq_inst.specs.declared.instance.Instance.{Instance}
 use Rattle.seq_inst.specs.declared.outcome.Row.{Row}
@@ -28,7 +29,7 @@ use Rattle.seq_graph.specs.declared.graph.Count.{Count}
 use Rattle.seq_graph.specs.Known.{AreRows, AreKnown, count_of, row_at, group_at, Narrows, IsClosedAt}
 use Rattle.seq_graph.specs.Parts.{IsUnknown, IsOpenAt, IsKnowledge}
 use Rattle.seq_graph.specs.Steps.{IsNew, IsOpenBelow, IsStep, ClosesBelow, Enters, least_test, step_by}
-use Rattle.seq_graph.specs.Walks.{HasMoved, HasTurned}
+use Rattle.seq_graph.specs.Walks.{HasMoved}
 use Rattle.seq_graph.proofs.KnownLaws.{IsLight, light-group, known_low-small, known_low-le, bound-le-known_low, row-real, row-within, row-bounds}
 use Rattle.seq_graph.proofs.PlaceLaws.{IsPlaced, place-found, place-none, row-at-place}
 use Rattle.seq_graph.proofs.CountLaws.{count-read, up-given}
@@ -114,7 +115,7 @@ module _ (inst : Instance) (v : Numbered) (rows : List Row) (kept : List Node) (
       let small = known_low-small inst rows known.rows_are g light in
       up-given p v rows kept counts known g n x has read (λ none. let bad : ⊥ = omega arith in bad) ∙ ap (λ m. Some m) (sym closed ∙ low)
 
-module _ (inst : Instance) (rows : List Row) (known : AreRows (problem_of inst) rows) where
+module _ (law : WalksHold) (inst : Instance) (rows : List Row) (known : AreRows (problem_of inst) rows) where
   -- ---- what the walk does ----
 
   new-part : (place t : ℕ) (passed : Bool) (g : Group) → place < length rows
@@ -123,10 +124,13 @@ module _ (inst : Instance) (rows : List Row) (known : AreRows (problem_of inst) 
   new-part place t passed g lt first is unknown =
       let p = problem_of inst in
       let real = row-real p rows known place lt in
-      let wanted = walk-wanted p (known_low p (rows_from rows)) (members (group_at rows place)) t passed inst.valid.told real.wanted real.goals
+      let wanted = law p (known_low p (rows_from rows)) (members (group_at rows place)) t passed inst.valid.told real
       (splitting-there p (members (group_at rows place)) t first.among) (splitting-splits p (members (group_at rows place)) t first.among)
       (bound-le-known_low p rows known)
-      (known_low-le p rows known inst.stands.weighed inst.valid.told) first.least in
+      (λ x n within least_is.
+      let a = known_low-le p rows known inst.stands.weighed inst.valid.told x within in
+      let one = IsLeast-one p x (least p x) n (IsLeast-least p x inst.valid.told within) least_is in
+      omega arith) first.least in
       record {
         real = record { wanted = subst (IsWanted p) (sym is) wanted; goals = unknown.goals };
         absent = row-none (rows_from rows) (members g) unknown.absent;

@@ -5,9 +5,9 @@ use Rattle.seq_graph.specs.declared.node.Waiting.{Waiting}
 use Rattle.seq_graph.specs.declared.choice.Chosen.{Chosen}
 
 -- the earlier choice, unless the new sum is less, or no more and its test lower
-abbrev pub lesser_choice : Option Chosen → Split → ℕ → Chosen
-lesser_choice None s sum = record { split = s; sum = sum }
-lesser_choice (Some c) s sum = cond (nat_lt c.sum sum || (nat_eq c.sum sum && nat_le c.split.test s.test)) c (record { split = s; sum = sum })
+abbrev pub lesser_split : Option Chosen → Split → ℕ → Chosen
+lesser_split None s sum = record { split = s; sum = sum }
+lesser_split (Some c) s sum = cond (nat_lt c.sum sum || (nat_eq c.sum sum && nat_le c.split.test s.test)) c (record { split = s; sum = sum })
 
 -- the choice has a sum that is less than the test's, or no more and a test that is no higher
 abbrev pub IsBefore : (ℕ → ℕ) → Chosen → Split → Type 0

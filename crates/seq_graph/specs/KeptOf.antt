@@ -47,7 +47,7 @@ pub record IsKeptOf (p : Problem) (v : Numbered) (group : List ℕ) (k : Node) :
 
 -- the entry at the place waits no longer, the last one of the list stands there, and its test is the last of the evaluated
 -- ones, with the numbers of its parts
-pub record IsEvaluated (p : Problem) (v : Numbered) (group : List ℕ) (at : ℕ) (old new : Node) : Type 0 where
+pub record EvaluatesAt (p : Problem) (v : Numbered) (group : List ℕ) (at : ℕ) (old new : Node) : Type 0 where
   pub entry : Waiting
   pub split : Split
   pub waited : slice_get old.waiting.items at ≡ Some entry

@@ -22,6 +22,8 @@ use Rattle.seq_core.specs.Settled.{groups_in, value_or}
 use Rattle.seq_graph.specs.declared.graph.Count.{Count}
 use Rattle.seq_graph.specs.declared.graph.Graph.{Graph}
 use Rattle.seq_graph.specs.Counts.{count_at}
+use Rattle.seq_inst.specs.declared.instance.Instance.{Instance}
+use Rattle.seq_inst.specs.Instances.{problem_of}
 
 -- the least cost of the group is at least the low and at most the up
 abbrev pub AreBounds : Problem → List ℕ → ℕ → ℕ → Type 0
@@ -126,3 +128,7 @@ Narrows (r ∷ rs) (s ∷ ss) = (s.group ≡ r.group) × (r.low ≤ s.low) × (s
 -- the least cost of the group at this place is known
 abbrev pub IsClosedAt : List Row → ℕ → Type 0
 IsClosedAt rows place = (row_at rows place).low ≡ (row_at rows place).up
+
+-- the graph is one of this instance: what it knows of each group is true of it
+abbrev pub IsGraphOf : Instance → Graph → Type 0
+IsGraphOf inst graph = IsKnown (problem_of inst) graph

@@ -1,3 +1,4 @@
+pub mod Memos
 pub mod Numbered
 pub mod GreedyChoice
 pub mod KeptOf

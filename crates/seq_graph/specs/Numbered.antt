@@ -4,14 +4,16 @@ use Rattle.seq_theory.specs.Problem.{Problem, IsWithin}
 use Rattle.seq_theory.specs.Bound.{bound}
 use Rattle.seq_theory.specs.Greedy.{greedy_test, greedy_cost}
 use Rattle.seq_theory.specs.Rows.{AreDistinct}
-use Rattle.seq_huff.specs.declared.order.Order.{Order}
-use Rattle.seq_huff.specs.Orders.{IsOrderOf}
 use Rattle.seq_graph.specs.declared.greedy.Greedy.{Greedy}
+use Rattle.seq_graph.specs.declared.memo.BoundMemo.{BoundMemo}
+use Rattle.seq_graph.specs.Memos.{IsMemoOf}
+use Rattle.seq_inst.specs.declared.instance.Instance.{Instance}
+use Rattle.seq_inst.specs.Instances.{problem_of}
 
--- the order by which bounds are worked out; the groups, as lists of classes, by number; their bounds; greedy's test and cost
+-- what bounds are worked out by, and remembered in; the groups, as lists of classes, by number; their bounds; greedy's test and cost
 -- over each, where these were worked out; and for how many more groups there is room
 pub record Numbered : Type 0 where
-  pub order : Order
+  pub memo : BoundMemo
   pub groups : List (List ℕ)
   pub bounds : List ℕ
   pub greedy : List (Option Greedy)
@@ -36,9 +38,9 @@ pub record IsGreedyOf (p : Problem) (group : List ℕ) (g : Greedy) : Type 0 whe
   pub test : g.test ≡ greedy_test p group
   pub cost : g.cost ≡ greedy_cost p group
 
--- the order is the problem's, no group has two numbers, and what is kept of each is what working it out afresh gives
+-- the memo is the problem's, no group has two numbers, and what is kept of each is what working it out afresh gives
 pub record AreNumbers (p : Problem) (v : Numbered) : Type 0 where
-  pub order : IsOrderOf p v.order
+  pub memo : IsMemoOf p v.memo
   pub distinct : AreDistinct v.groups
   pub within : (group : List ℕ) (n : ℕ) → HasNumber v group n → IsWithin p group
   pub bounds : v.bounds ≡ map (bound p) v.groups
@@ -48,3 +50,7 @@ pub record AreNumbers (p : Problem) (v : Numbered) : Type 0 where
 -- each group that had a number has it still
 abbrev pub KeepsNumbers : Numbered → Numbered → Type 0
 KeepsNumbers old new = (group : List ℕ) (n : ℕ) → HasNumber old group n → HasNumber new group n
+
+-- what is kept of groups by number is that of this instance
+abbrev pub AreNumbersFor : Instance → Numbered → Type 0
+AreNumbersFor inst v = AreNumbers (problem_of inst) v

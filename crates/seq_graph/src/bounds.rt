@@ -8,7 +8,7 @@ ghost use Rattle.seq_theory.specs.Rows.{known_low, most_low};
 ghost use Rattle.seq_inst.specs.Members.{members};
 ghost use Rattle.seq_inst.specs.Instances.{problem_of};
 ghost use Rattle.seq_core.specs.RowsOf.{rows_of as rows_from};
-ghost use Rattle.seq_graph.specs.Known.{IsKnown, AreBounds, Allow, group_at, splits_at};
+ghost use Rattle.seq_graph.specs.Known.{AreBounds, Allow, group_at, splits_at, IsGraphOf};
 ghost use Rattle.seq_graph.specs.Settling.{evaluated_up};
 ghost use Rattle.seq_graph.specs.Steps.{least_test as least_test_of, ClosesBelow};
 
@@ -27,7 +27,7 @@ pub struct Bounds {
 
 /// What the tests of a group allow, by the one of least sum and those that are evaluated.
 pub(crate) fn bounds_by(inst: &Instance, graph: &Graph, place: usize, chosen: Chosen) -> Bounds
-    requires known { IsKnown (problem_of inst.now) graph.now }
+    requires known { IsGraphOf inst.now graph.now }
     requires place { place < length graph.now.rows.items }
     requires test { chosen.split.test ≡ least_test_of (problem_of inst.now) graph.now.rows.items (members (group_at graph.now.rows.items place)) }
     requires sum { chosen.sum ≡ step_sum (problem_of inst.now) (known_low (problem_of inst.now) (rows_from graph.now.rows.items)) (members (group_at graph.now.rows.items place)) chosen.split.test }
@@ -46,9 +46,9 @@ pub(crate) fn bounds_by(inst: &Instance, graph: &Graph, place: usize, chosen: Ch
 /// What the tests of a group allow for its bounds. No row changes: `hear` tells the row. Where both parts by
 /// the test of least sum are closed, these bounds close the group.
 pub fn backed_up(inst: &Instance, graph: &mut Graph, place: usize) -> Result<Bounds, AllocError>
-    requires known { IsKnown (problem_of inst.now) graph.old }
+    requires known { IsGraphOf inst.now graph.old }
     requires place { place < length graph.old.rows.items }
-    ensures known { IfOk result (λ _. IsKnown (problem_of inst.now) graph.new) }
+    ensures known { IfOk result (λ _. IsGraphOf inst.now graph.new) }
     ensures rows { IfOk result (λ _. graph.new.rows.items ≡ graph.old.rows.items) }
 
     // The low is all that the rows allow. The up is one that they allow: the tests that wait are not asked.

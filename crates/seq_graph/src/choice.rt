@@ -9,9 +9,9 @@ ghost use Rattle.seq_inst.specs.Members.{members};
 ghost use Rattle.seq_inst.specs.Instances.{problem_of};
 ghost use Rattle.seq_core.specs.RowsOf.{rows_of as rows_from};
 ghost use Rattle.seq_graph.specs.KeptOf.{HasParts};
-ghost use Rattle.seq_graph.specs.Known.{IsKnown, group_at, splits_at};
+ghost use Rattle.seq_graph.specs.Known.{group_at, splits_at, IsGraphOf};
 ghost use Rattle.seq_graph.specs.Settling.{evaluated_up};
-ghost use Rattle.seq_graph.specs.Choice.{lesser_choice, lesser_value, IsChoice};
+ghost use Rattle.seq_graph.specs.Choice.{lesser_split, lesser_value, IsChoice};
 ghost use Rattle.seq_graph.specs.Steps.{least_test as least_test_of};
 
 use crate::graph::Graph;
@@ -30,7 +30,7 @@ pub(crate) struct Chosen {
 
 /// The earlier choice, unless the new sum is less, or no more and its test lower.
 fn choose(earlier: Option<Chosen>, split: Split, sum: u64) -> Chosen
-    ensures { result ≡ lesser_choice earlier split sum }
+    ensures { result ≡ lesser_split earlier split sum }
 {
     match earlier {
         Some(chosen)
@@ -43,7 +43,7 @@ fn choose(earlier: Option<Chosen>, split: Split, sum: u64) -> Chosen
 
 /// The sum of a test over the group of the place, and what its parts count.
 fn low_sum(inst: &Instance, graph: &Graph, place: usize, split: Split) -> u64
-    requires known { IsKnown (problem_of inst.now) graph.now }
+    requires known { IsGraphOf inst.now graph.now }
     requires place { place < length graph.now.rows.items }
     requires parts { HasParts (problem_of inst.now) graph.now.numbers (members (group_at graph.now.rows.items place)) split }
     requires there { split.test < length inst.now.costs.items }
@@ -55,7 +55,7 @@ fn low_sum(inst: &Instance, graph: &Graph, place: usize, split: Split) -> u64
 
 /// The evaluated test of least sum, the lowest of these, if any is evaluated.
 fn least_evaluated(inst: &Instance, graph: &Graph, place: usize) -> Option<Chosen>
-    requires known { IsKnown (problem_of inst.now) graph.now }
+    requires known { IsGraphOf inst.now graph.now }
     requires place { place < length graph.now.rows.items }
     ensures { IsChoice (step_sum (problem_of inst.now) (known_low (problem_of inst.now) (rows_from graph.now.rows.items)) (members (group_at graph.now.rows.items place))) (splits_at graph.now.nodes.items place) result }
 {
@@ -74,9 +74,9 @@ pub(crate) fn least_test(
     graph: &mut Graph,
     place: usize,
 ) -> Result<Chosen, AllocError>
-    requires known { IsKnown (problem_of inst.now) graph.old }
+    requires known { IsGraphOf inst.now graph.old }
     requires place { place < length graph.old.rows.items }
-    ensures known { IfOk result (λ _. IsKnown (problem_of inst.now) graph.new) }
+    ensures known { IfOk result (λ _. IsGraphOf inst.now graph.new) }
     ensures rows { IfOk result (λ _. graph.new.rows.items ≡ graph.old.rows.items) }
     ensures test { IfOk result (λ c. c.split.test ≡ least_test_of (problem_of inst.now) graph.new.rows.items (members (group_at graph.new.rows.items place))) }
     ensures sum { IfOk result (λ c. c.sum ≡ step_sum (problem_of inst.now) (known_low (problem_of inst.now) (rows_from graph.new.rows.items)) (members (group_at graph.new.rows.items place)) c.split.test) }
@@ -97,7 +97,7 @@ pub(crate) fn least_test(
 
 /// The sum of a test and the ups of its parts, if both have one.
 fn up_sum(inst: &Instance, graph: &Graph, place: usize, split: Split) -> Option<u64>
-    requires known { IsKnown (problem_of inst.now) graph.now }
+    requires known { IsGraphOf inst.now graph.now }
     requires place { place < length graph.now.rows.items }
     requires parts { HasParts (problem_of inst.now) graph.now.numbers (members (group_at graph.now.rows.items place)) split }
     requires there { split.test < length inst.now.costs.items }
@@ -123,7 +123,7 @@ fn lesser_of(number: u64, value: Option<u64>) -> u64
 
 /// The least of greedy's cost and of the sums of the ups of the evaluated tests' parts.
 pub(crate) fn least_up(inst: &Instance, graph: &Graph, place: usize) -> u64
-    requires known { IsKnown (problem_of inst.now) graph.now }
+    requires known { IsGraphOf inst.now graph.now }
     requires place { place < length graph.now.rows.items }
     ensures { result ≡ evaluated_up (problem_of inst.now) graph.now.rows.items graph.now.nodes.items place }
 {

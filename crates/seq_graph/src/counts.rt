@@ -1,7 +1,7 @@
 //! What groups count that were met for the first time: none of them has a row.
 ghost use Rattle.std.specs.Prelude.{◌≡◌, ◌<◌, ◌≤◌, List, ℕ, length, map, ◌++◌, drop, IfOk};
 ghost use Rattle.seq_inst.specs.Instances.{problem_of};
-ghost use Rattle.seq_graph.specs.Numbered.{AreNumbers, HasNumber};
+ghost use Rattle.seq_graph.specs.Numbered.{HasNumber, AreNumbersFor};
 ghost use Rattle.seq_graph.specs.Counts.{new_count};
 
 use crate::graph::Count;
@@ -11,7 +11,7 @@ use std::alloc::AllocError;
 
 /// What the group of a number counts that has no row.
 fn count_without_row(inst: &Instance, numbers: &Numbers, number: u32) -> Count
-    requires numbers { AreNumbers (problem_of inst.now) numbers.now }
+    requires numbers { AreNumbersFor inst.now numbers.now }
     requires there { number < length numbers.now.groups }
     ensures { (group : List ℕ) → HasNumber numbers.now group number → result ≡ new_count (problem_of inst.now) group }
 {
@@ -29,7 +29,7 @@ pub(crate) fn count_new(
     numbers: &Numbers,
     counts: &mut Vec<Count>,
 ) -> Result<(), AllocError>
-    requires numbers { AreNumbers (problem_of inst.now) numbers.now }
+    requires numbers { AreNumbersFor inst.now numbers.now }
     requires fewer { length counts.old.items ≤ length numbers.now.groups }
     ensures { IfOk result (λ _. counts.new.items ≡ counts.old.items ++ map (new_count (problem_of inst.now)) (drop (length counts.old.items) numbers.now.groups)) }
 {

@@ -9,7 +9,7 @@ ghost use Rattle.seq_theory.specs.Rows.{groups_of, no_value};
 ghost use Rattle.seq_inst.specs.Members.{members};
 ghost use Rattle.seq_inst.specs.Instances.{problem_of};
 ghost use Rattle.seq_core.specs.RowsOf.{rows_of as rows_from};
-ghost use Rattle.seq_graph.specs.Known.{IsKnown, AreBounds, AreSound, Allow, Narrows, row_at, group_at, IsClosedAt, heard, raised_at, capped_at, narrowed_at};
+ghost use Rattle.seq_graph.specs.Known.{AreBounds, AreSound, Allow, Narrows, row_at, group_at, IsClosedAt, heard, raised_at, capped_at, narrowed_at, IsGraphOf};
 ghost use Rattle.seq_graph.specs.Steps.{ClosesBelow};
 
 use crate::bounds::{Bounds, backed_up};
@@ -53,10 +53,10 @@ fn narrow(counts: &mut Vec<Count>, number: usize, low: u64, up: u64)
 
 /// Raises and caps the row of a place, and what its group counts.
 pub(crate) fn note(inst: &Instance, graph: &mut Graph, place: usize, bounds: Bounds)
-    requires known { IsKnown (problem_of inst.now) graph.old }
+    requires known { IsGraphOf inst.now graph.old }
     requires place { place < length graph.old.rows.items }
     requires right { AreBounds (problem_of inst.now) (members (group_at graph.old.rows.items place)) bounds.low bounds.up }
-    ensures known { IsKnown (problem_of inst.now) graph.new }
+    ensures known { IsGraphOf inst.now graph.new }
     ensures rows { graph.new.rows.items ≡ slice_set graph.old.rows.items place (heard bounds.low bounds.up (row_at graph.old.rows.items place)) }
     ensures narrows { Narrows graph.old.rows.items graph.new.rows.items }
     ensures closes { bounds.up ≤ bounds.low → IsClosedAt graph.new.rows.items place }
@@ -71,9 +71,9 @@ pub(crate) fn note(inst: &Instance, graph: &mut Graph, place: usize, bounds: Bou
 
 /// Leaves out the tests of a group that can't be of least sum again.
 fn prune(inst: &Instance, graph: &mut Graph, place: usize)
-    requires known { IsKnown (problem_of inst.now) graph.old }
+    requires known { IsGraphOf inst.now graph.old }
     requires place { place < length graph.old.rows.items }
-    ensures known { IsKnown (problem_of inst.now) graph.new }
+    ensures known { IsGraphOf inst.now graph.new }
     ensures rows { graph.new.rows.items ≡ graph.old.rows.items }
 {
     let up = graph.rows[place].up;
@@ -86,10 +86,10 @@ fn prune(inst: &Instance, graph: &mut Graph, place: usize)
 /// A group hears bounds on its least cost, from its own tests or from elsewhere: its low rises to theirs, its
 /// up falls to theirs, and its tests whose sums are above the up go for good.
 pub fn hear(inst: &Instance, graph: &mut Graph, place: usize, bounds: Bounds)
-    requires known { IsKnown (problem_of inst.now) graph.old }
+    requires known { IsGraphOf inst.now graph.old }
     requires place { place < length graph.old.rows.items }
     requires right { AreBounds (problem_of inst.now) (members (group_at graph.old.rows.items place)) bounds.low bounds.up }
-    ensures known { IsKnown (problem_of inst.now) graph.new }
+    ensures known { IsGraphOf inst.now graph.new }
     ensures rows { graph.new.rows.items ≡ slice_set graph.old.rows.items place (heard bounds.low bounds.up (row_at graph.old.rows.items place)) }
     ensures narrows { Narrows graph.old.rows.items graph.new.rows.items }
     ensures closes { bounds.up ≤ bounds.low → IsClosedAt graph.new.rows.items place }
@@ -103,9 +103,9 @@ pub fn hear(inst: &Instance, graph: &mut Graph, place: usize, bounds: Bounds)
 
 /// A group hears what its own tests allow.
 pub fn back_up(inst: &Instance, graph: &mut Graph, place: usize) -> Result<(), AllocError>
-    requires known { IsKnown (problem_of inst.now) graph.old }
+    requires known { IsGraphOf inst.now graph.old }
     requires place { place < length graph.old.rows.items }
-    ensures known { IfOk result (λ _. IsKnown (problem_of inst.now) graph.new) }
+    ensures known { IfOk result (λ _. IsGraphOf inst.now graph.new) }
     ensures narrows { IfOk result (λ _. Narrows graph.old.rows.items graph.new.rows.items) }
     ensures closes { IfOk result (λ _. ClosesBelow (problem_of inst.now) graph.old.rows.items (members (group_at graph.old.rows.items place)) → IsClosedAt graph.new.rows.items place) }
     ensures sound { IfOk result (λ _. AreSound (problem_of inst.now) graph.old.rows.items → AreSound (problem_of inst.now) graph.new.rows.items) }
@@ -116,17 +116,17 @@ pub fn back_up(inst: &Instance, graph: &mut Graph, place: usize) -> Result<(), A
 }
 
 /// Gives a group a row with what greedy costs for an up, and what is kept of it.
-pub(crate) fn add(
+pub fn add(
     alloc: Global,
     inst: &Instance,
     graph: &mut Graph,
     group: &Group,
 ) -> Result<(), AllocError>
-    requires known { IsKnown (problem_of inst.now) graph.old }
+    requires known { IsGraphOf inst.now graph.old }
     requires real { IsReal (problem_of inst.now) (members group.now) }
     requires new { is_entered (groups_of (rows_from graph.old.rows.items)) (members group.now) ≡ false }
     requires room { length graph.old.rows.items < 2 ^ 32 }
-    ensures known { IfOk result (λ _. IsKnown (problem_of inst.now) graph.new) }
+    ensures known { IfOk result (λ _. IsGraphOf inst.now graph.new) }
     ensures rows { IfOk result (λ _. graph.new.rows.items ≡ graph.old.rows.items ++ record { group = group.now; low = 0; up = greedy_cost (problem_of inst.now) (members group.now) } ∷ []) }
     ensures sound { IfOk result (λ _. AreSound (problem_of inst.now) graph.old.rows.items → AreSound (problem_of inst.now) graph.new.rows.items) }
 {
@@ -155,9 +155,9 @@ pub(crate) fn add(
 /// Gives back the room of the tests that were left out. Most go at the first revision, so that this pays
 /// when a group is entered, and not later.
 fn give_back(inst: &Instance, graph: &mut Graph, place: usize)
-    requires known { IsKnown (problem_of inst.now) graph.old }
+    requires known { IsGraphOf inst.now graph.old }
     requires place { place < length graph.old.rows.items }
-    ensures known { IsKnown (problem_of inst.now) graph.new }
+    ensures known { IsGraphOf inst.now graph.new }
     ensures rows { graph.new.rows.items ≡ graph.old.rows.items }
 {
     let _ = inst;
@@ -173,11 +173,11 @@ pub fn enter(
     graph: &mut Graph,
     group: &Group,
 ) -> Result<(), AllocError>
-    requires known { IsKnown (problem_of inst.now) graph.old }
+    requires known { IsGraphOf inst.now graph.old }
     requires real { IsReal (problem_of inst.now) (members group.now) }
     requires new { is_entered (groups_of (rows_from graph.old.rows.items)) (members group.now) ≡ false }
     requires room { length graph.old.rows.items < 32768 }
-    ensures known { IfOk result (λ _. IsKnown (problem_of inst.now) graph.new) }
+    ensures known { IfOk result (λ _. IsGraphOf inst.now graph.new) }
     ensures narrows { IfOk result (λ _. Narrows (graph.old.rows.items ++ record { group = group.now; low = 0; up = no_value } ∷ []) graph.new.rows.items) }
     ensures sound { IfOk result (λ _. AreSound (problem_of inst.now) graph.old.rows.items → AreSound (problem_of inst.now) graph.new.rows.items) }
 {

@@ -3,7 +3,7 @@
 //! group. So the sum of a test over what its parts count is two look-ups by number.
 ghost use Rattle.std.specs.Prelude.{◌≡◌, [], IfOk};
 ghost use Rattle.seq_inst.specs.Instances.{problem_of};
-ghost use Rattle.seq_graph.specs.Known.{IsKnown, AreSound};
+ghost use Rattle.seq_graph.specs.Known.{AreSound, IsGraphOf};
 
 use crate::node::Node;
 use crate::numbers::Numbers;
@@ -35,7 +35,7 @@ impl Graph {
     /// Nothing is known yet.
     pub fn new(alloc: Global, inst: &Instance) -> Result<Graph, AllocError>
         ensures rows { IfOk result (λ s. s.rows.items ≡ []) }
-        ensures known { IfOk result (IsKnown (problem_of inst.now)) }
+        ensures known { IfOk result (IsGraphOf inst.now) }
         ensures sound { IfOk result (λ s. AreSound (problem_of inst.now) s.rows.items) }
     {
         let numbers = Numbers::new(alloc, inst)?;

@@ -6,23 +6,23 @@
 //! A test is chosen by its sum over the bounds of its parts. Most tests need no sum: each test that splits
 //! the group has an estimate that is at most its sum, and a test is passed over where its estimate is above
 //! a sum that is known. The test of least estimate is asked first, so that this sum is small from the start.
-//! The bounds that were worked out for a sum are kept, as a search asks for them again; the parts of the
-//! tests that were passed over get no numbers.
+//! The bounds that were worked out for a sum are remembered for a while, as a search soon asks for them again;
+//! of the parts only those by greedy's test get numbers.
 ghost use Rattle.std.specs.Prelude.{◌≡◌, ◌⊎◌, ◌<◌, ◌≤◌, true, false, Some, IfOk, IfSome, vec_len};
-ghost use Rattle.seq_theory.specs.Problem.{IsWithin, is_end, splits as is_split, weight_of as weight_sum};
+ghost use Rattle.seq_theory.specs.Problem.{is_end, splits as is_split, weight_of as weight_sum};
 ghost use Rattle.seq_theory.specs.Bound.{bound as bound_by, step_sum};
 ghost use Rattle.seq_theory.specs.Greedy.{greedy_test as test_of_greedy, greedy_cost as cost_of_greedy, greedy as tree_of_greedy};
 ghost use Rattle.seq_huff.specs.Bounds.{greatest_cost};
-ghost use Rattle.seq_huff.specs.Orders.{IsOrderOf};
-ghost use Rattle.seq_inst.specs.Instances.{problem_of};
+ghost use Rattle.seq_huff.specs.Orders.{IsOrderFor};
+ghost use Rattle.seq_inst.specs.Instances.{problem_of, IsGroupOf};
 ghost use Rattle.seq_inst.specs.Members.{members};
 ghost use Rattle.seq_inst.specs.Trees.{tree_of};
-ghost use Rattle.seq_graph.specs.GreedyChoice.{IsNoLater, IsEvaluated, AreEstimates, evaluated};
-ghost use Rattle.seq_graph.specs.Numbered.{capacity, AreNumbers, KeepsNumbers};
+ghost use Rattle.seq_graph.specs.GreedyChoice.{IsNoLater, IsTestWithSum, evaluated, AreEstimatesFor};
+ghost use Rattle.seq_graph.specs.Numbered.{capacity, KeepsNumbers, AreNumbersFor};
 
 use crate::numbers::Numbers;
 use seq_huff::{Estimate, Order};
-use seq_inst::{Answer, Group, Instance, Strategy, ask_first, is_leaf, part, splits, weight_of};
+use seq_inst::{Group, Instance, Strategy, ask_first, is_leaf, parts_of, splits, weight_of};
 use std::alloc::{AllocError, Global};
 
 /// Greedy's test of a group, and what greedy costs over the group.
@@ -74,10 +74,10 @@ pub(crate) struct Estimates {
 
 /// The estimates of the tests that split the group, which has two goals or more.
 pub(crate) fn estimates_of(order: &Order, inst: &Instance, group: &Group) -> Estimates
-    requires order { IsOrderOf (problem_of inst.now) order.now }
-    requires within { IsWithin (problem_of inst.now) (members group.now) }
+    requires order { IsOrderFor inst.now order.now }
+    requires within { IsGroupOf inst.now group.now }
     requires more { is_end (problem_of inst.now) (members group.now) ≡ false }
-    ensures { AreEstimates (problem_of inst.now) (members group.now) result }
+    ensures { AreEstimatesFor inst.now group.now result }
 {
     let estimate = Estimate::of(order, inst, group);
     let tests = inst.costs.len() as u32;
@@ -100,22 +100,21 @@ pub(crate) fn estimates_of(order: &Order, inst: &Instance, group: &Group) -> Est
 }
 
 impl Numbers {
-    /// The sum of a test over the group, of which the weight is known, and the bounds of its parts. Parts
-    /// of two goals or more get numbers where there is room.
+    /// The sum of a test over the group, of which the weight is known, and the bounds of its parts.
+    /// No part gets a number by it.
     fn bound_sum(&mut self, inst: &Instance, group: &Group, test: u32, weight: u64) -> u64
-        requires numbers { AreNumbers (problem_of inst.now) self.old }
-        requires within { IsWithin (problem_of inst.now) (members group.now) }
+        requires numbers { AreNumbersFor inst.now self.old }
+        requires within { IsGroupOf inst.now group.now }
         requires there { test < vec_len inst.now.costs }
         requires weight { weight ≡ weight_sum (problem_of inst.now) (members group.now) }
-        ensures numbers { AreNumbers (problem_of inst.now) self.new }
+        ensures numbers { AreNumbersFor inst.now self.new }
         ensures keeps { KeepsNumbers self.old self.new }
         ensures capacity { capacity self.new ≡ capacity self.old }
         ensures value { result ≡ step_sum (problem_of inst.now) (bound_by (problem_of inst.now)) (members group.now) test }
     {
-        let pass_part = part(inst, group, test, Answer::Pass);
-        let pass = self.bound_within(inst, &pass_part);
-        let fail_part = part(inst, group, test, Answer::Fail);
-        let fail = self.bound_within(inst, &fail_part);
+        let parts = parts_of(inst, group, test);
+        let pass = self.bound_within(inst, &parts.pass);
+        let fail = self.bound_within(inst, &parts.fail);
         u64::from(inst.costs[test as usize]) * weight + (pass + fail)
     }
 
@@ -130,16 +129,16 @@ impl Numbers {
         test: u32,
         estimate: u64,
     ) -> Chosen
-        requires numbers { AreNumbers (problem_of inst.now) self.old }
-        requires within { IsWithin (problem_of inst.now) (members group.now) }
+        requires numbers { AreNumbersFor inst.now self.old }
+        requires within { IsGroupOf inst.now group.now }
         requires weight { weight ≡ weight_sum (problem_of inst.now) (members group.now) }
-        requires earlier { IsEvaluated (problem_of inst.now) (members group.now) earlier }
+        requires earlier { IsTestWithSum (problem_of inst.now) (members group.now) earlier }
         requires there { test < vec_len inst.now.costs }
         requires estimate { is_split (problem_of inst.now) (members group.now) test ≡ true → estimate ≤ step_sum (problem_of inst.now) (bound_by (problem_of inst.now)) (members group.now) test }
-        ensures numbers { AreNumbers (problem_of inst.now) self.new }
+        ensures numbers { AreNumbersFor inst.now self.new }
         ensures keeps { KeepsNumbers self.old self.new }
         ensures capacity { capacity self.new ≡ capacity self.old }
-        ensures evaluated { IsEvaluated (problem_of inst.now) (members group.now) result }
+        ensures evaluated { IsTestWithSum (problem_of inst.now) (members group.now) result }
         ensures earlier { IsNoLater result earlier }
         ensures test { is_split (problem_of inst.now) (members group.now) test ≡ true → IsNoLater result (evaluated (problem_of inst.now) (members group.now) test) }
     {
@@ -158,12 +157,12 @@ impl Numbers {
 
     /// The splitting test of least sum over the bounds of its parts, the lowest of these.
     fn test_by(&mut self, inst: &Instance, group: &Group, weight: u64, estimates: &Estimates) -> u32
-        requires numbers { AreNumbers (problem_of inst.now) self.old }
-        requires within { IsWithin (problem_of inst.now) (members group.now) }
+        requires numbers { AreNumbersFor inst.now self.old }
+        requires within { IsGroupOf inst.now group.now }
         requires weight { weight ≡ weight_sum (problem_of inst.now) (members group.now) }
         requires more { is_end (problem_of inst.now) (members group.now) ≡ false }
-        requires estimates { AreEstimates (problem_of inst.now) (members group.now) estimates.now }
-        ensures numbers { AreNumbers (problem_of inst.now) self.new }
+        requires estimates { AreEstimatesFor inst.now group.now estimates.now }
+        ensures numbers { AreNumbersFor inst.now self.new }
         ensures keeps { KeepsNumbers self.old self.new }
         ensures capacity { capacity self.new ≡ capacity self.old }
         ensures test { result ≡ test_of_greedy (problem_of inst.now) (members group.now) }
@@ -189,12 +188,12 @@ impl Numbers {
         weight: u64,
         estimates: Option<&Estimates>,
     ) -> u32
-        requires numbers { AreNumbers (problem_of inst.now) self.old }
-        requires within { IsWithin (problem_of inst.now) (members group.now) }
+        requires numbers { AreNumbersFor inst.now self.old }
+        requires within { IsGroupOf inst.now group.now }
         requires weight { weight ≡ weight_sum (problem_of inst.now) (members group.now) }
         requires more { is_end (problem_of inst.now) (members group.now) ≡ false }
-        requires estimates { IfSome estimates (λ e. AreEstimates (problem_of inst.now) (members group.now) e.now) }
-        ensures numbers { AreNumbers (problem_of inst.now) self.new }
+        requires estimates { IfSome estimates (λ e. AreEstimatesFor inst.now group.now e.now) }
+        ensures numbers { AreNumbersFor inst.now self.new }
         ensures keeps { KeepsNumbers self.old self.new }
         ensures capacity { capacity self.new ≡ capacity self.old }
         ensures test { result ≡ test_of_greedy (problem_of inst.now) (members group.now) }
@@ -211,9 +210,9 @@ impl Numbers {
     /// What greedy costs over the group. It is worked out once for each group that greedy's trees meet, as
     /// long as there is room for numbers; it takes no memory.
     pub fn greedy_of(&mut self, inst: &Instance, group: &Group) -> u64
-        requires numbers { AreNumbers (problem_of inst.now) self.old }
-        requires within { IsWithin (problem_of inst.now) (members group.now) }
-        ensures numbers { AreNumbers (problem_of inst.now) self.new }
+        requires numbers { AreNumbersFor inst.now self.old }
+        requires within { IsGroupOf inst.now group.now }
+        ensures numbers { AreNumbersFor inst.now self.new }
         ensures keeps { KeepsNumbers self.old self.new }
         ensures capacity { capacity self.new ≡ capacity self.old }
         ensures value { result ≡ cost_of_greedy (problem_of inst.now) (members group.now) }
@@ -229,10 +228,10 @@ impl Numbers {
         group: &Group,
         estimates: Option<&Estimates>,
     ) -> u64
-        requires numbers { AreNumbers (problem_of inst.now) self.old }
-        requires within { IsWithin (problem_of inst.now) (members group.now) }
-        requires estimates { IfSome estimates (λ e. AreEstimates (problem_of inst.now) (members group.now) e.now) }
-        ensures numbers { AreNumbers (problem_of inst.now) self.new }
+        requires numbers { AreNumbersFor inst.now self.old }
+        requires within { IsGroupOf inst.now group.now }
+        requires estimates { IfSome estimates (λ e. AreEstimatesFor inst.now group.now e.now) }
+        ensures numbers { AreNumbersFor inst.now self.new }
         ensures keeps { KeepsNumbers self.old self.new }
         ensures capacity { capacity self.new ≡ capacity self.old }
         ensures value { result ≡ cost_of_greedy (problem_of inst.now) (members group.now) }
@@ -246,10 +245,9 @@ impl Numbers {
         }
         let weight = weight_of(inst, group);
         let test = self.greedy_test(inst, group, weight, estimates);
-        let pass_part = part(inst, group, test, Answer::Pass);
-        let pass = self.greedy_from(inst, &pass_part, None);
-        let fail_part = part(inst, group, test, Answer::Fail);
-        let fail = self.greedy_from(inst, &fail_part, None);
+        let parts = parts_of(inst, group, test);
+        let pass = self.greedy_from(inst, &parts.pass, None);
+        let fail = self.greedy_from(inst, &parts.fail, None);
         let cost = u64::from(inst.costs[test as usize]) * weight + (pass + fail);
         self.keep_greedy(inst, group, Greedy { test, cost });
         cost
@@ -257,10 +255,10 @@ impl Numbers {
 
     /// Greedy's test of the group, which has two goals or more: the kept one, or chosen afresh.
     fn greedy_choice(&mut self, inst: &Instance, group: &Group) -> u32
-        requires numbers { AreNumbers (problem_of inst.now) self.old }
-        requires within { IsWithin (problem_of inst.now) (members group.now) }
+        requires numbers { AreNumbersFor inst.now self.old }
+        requires within { IsGroupOf inst.now group.now }
         requires more { is_end (problem_of inst.now) (members group.now) ≡ false }
-        ensures numbers { AreNumbers (problem_of inst.now) self.new }
+        ensures numbers { AreNumbersFor inst.now self.new }
         ensures keeps { KeepsNumbers self.old self.new }
         ensures capacity { capacity self.new ≡ capacity self.old }
         ensures test { result ≡ test_of_greedy (problem_of inst.now) (members group.now) }
@@ -280,9 +278,9 @@ impl Numbers {
         inst: &Instance,
         group: &Group,
     ) -> Result<Strategy, AllocError>
-        requires numbers { AreNumbers (problem_of inst.now) self.old }
-        requires within { IsWithin (problem_of inst.now) (members group.now) }
-        ensures numbers { AreNumbers (problem_of inst.now) self.new }
+        requires numbers { AreNumbersFor inst.now self.old }
+        requires within { IsGroupOf inst.now group.now }
+        ensures numbers { AreNumbersFor inst.now self.new }
         ensures keeps { KeepsNumbers self.old self.new }
         ensures capacity { capacity self.new ≡ capacity self.old }
         ensures value { IfOk result (λ s. tree_of s ≡ tree_of_greedy (problem_of inst.now) (members group.now)) }
@@ -291,10 +289,9 @@ impl Numbers {
             return Ok(Strategy::Leaf);
         }
         let test = self.greedy_choice(inst, group);
-        let pass_part = part(inst, group, test, Answer::Pass);
-        let pass = self.greedy_tree(alloc, inst, &pass_part)?;
-        let fail_part = part(inst, group, test, Answer::Fail);
-        let fail = self.greedy_tree(alloc, inst, &fail_part)?;
+        let parts = parts_of(inst, group, test);
+        let pass = self.greedy_tree(alloc, inst, &parts.pass)?;
+        let fail = self.greedy_tree(alloc, inst, &parts.fail)?;
         ask_first(alloc, test, pass, fail)
     }
 }

@@ -1,11 +1,11 @@
 //! What an engine knows of the groups that it met and entered, in one structure.
 //!
-//! Each group that is met has a number, with its bound and, once it is asked for, greedy's test and cost
-//! (`Numbers`); beside the numbers stands what each group counts for a low and for an up. Each group that is
-//! entered has a row, and what is kept of it (`Node`): the tests that split it are listed once. Each waits
-//! with a number that is at most its sum, and is evaluated where the least sum isn't certain without it.
-//! Those whose sums pass the group's up are left out for good. So a sum costs two look-ups, and nothing is
-//! worked out twice.
+//! Each group that is entered, stands in a tree of greedy's, or is a part by an evaluated test has a number,
+//! with its bound and, once it is asked for, greedy's test and cost (`Numbers`); beside the numbers stands what
+//! each group counts for a low and for an up. Bounds of other parts are remembered for a while (`BoundMemo`).
+//! Each group that is entered has a row, and what is kept of it (`Node`): the tests that split it are listed
+//! once. Each waits with a number that is at most its sum, and is evaluated where the least sum isn't certain
+//! without it. Those whose sums pass the group's up are left out for good. So a sum costs two look-ups.
 //!
 //! An engine enters groups (`enter`), goes down by tests of least sum (`next_step`), and raises and caps the
 //! groups that it came through from what is known of their parts (`back_up`: AO*'s revision from below
@@ -23,6 +23,7 @@ mod greedy;
 mod laws;
 mod listing;
 mod look;
+mod memo;
 mod node;
 mod numbers;
 mod settling;
@@ -33,7 +34,7 @@ mod tests;
 mod waiting;
 
 pub use bounds::{Bounds, backed_up};
-pub use events::{back_up, enter, hear};
+pub use events::{add, back_up, enter, hear};
 pub use graph::{Count, Graph};
 pub use laws::turns_move;
 pub use node::{Node, Split, Waiting};

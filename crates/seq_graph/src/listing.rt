@@ -6,7 +6,7 @@ ghost use Rattle.seq_theory.specs.Rows.{AreDistinct};
 ghost use Rattle.seq_inst.specs.Instances.{problem_of};
 ghost use Rattle.seq_inst.specs.Members.{members};
 ghost use Rattle.seq_core.specs.Settled.{groups_in};
-ghost use Rattle.seq_graph.specs.Known.{IsKnown, AreSound};
+ghost use Rattle.seq_graph.specs.Known.{AreSound, IsGraphOf};
 ghost use Rattle.seq_graph.specs.Listed.{listed};
 
 use crate::events::add;
@@ -19,7 +19,7 @@ impl Graph {
     pub fn of_rows(alloc: Global, inst: &Instance, rows: &[Row]) -> Result<Graph, AllocError>
         requires real { All (λ r. IsReal (problem_of inst.now) (members r.group)) rows.now }
         requires distinct { AreDistinct (groups_in rows.now) }
-        ensures known { IfOk result (IsKnown (problem_of inst.now)) }
+        ensures known { IfOk result (IsGraphOf inst.now) }
         ensures rows { IfOk result (λ g. g.rows.items ≡ listed (problem_of inst.now) rows.now) }
         ensures sound { IfOk result (λ g. AreSound (problem_of inst.now) g.rows.items) }
     {

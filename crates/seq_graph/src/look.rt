@@ -9,17 +9,17 @@ ghost use Rattle.seq_inst.specs.Members.{members};
 ghost use Rattle.seq_inst.specs.Instances.{problem_of};
 ghost use Rattle.seq_graph.specs.declared.node.Split.{Split};
 ghost use Rattle.seq_core.specs.RowsOf.{rows_of as rows_from};
-ghost use Rattle.seq_graph.specs.Known.{IsKnown, splits_at, waiting_at};
+ghost use Rattle.seq_graph.specs.Known.{splits_at, waiting_at, IsGraphOf};
 ghost use Rattle.seq_graph.specs.Looks.{NoneIsValued};
 
 use crate::graph::Graph;
 use crate::waiting::evaluate;
-use seq_inst::{Answer, Group, Instance, is_leaf, part};
+use seq_inst::{Group, Instance, is_leaf, parts_of};
 use std::alloc::AllocError;
 
 /// Whether the group has one goal, or a number beside which an up stands.
 fn has_up(inst: &Instance, graph: &Graph, group: &Group) -> bool
-    requires known { IsKnown (problem_of inst.now) graph.now }
+    requires known { IsGraphOf inst.now graph.now }
     ensures { result ≡ is_some (known_up (problem_of inst.now) (rows_from graph.now.rows.items) (members group.now)) }
 {
     match graph.numbers.find(group) {
@@ -30,12 +30,12 @@ fn has_up(inst: &Instance, graph: &Graph, group: &Group) -> bool
 
 /// Whether both parts of the group by the test have an up.
 fn have_ups(inst: &Instance, graph: &Graph, group: &Group, test: u32) -> bool
-    requires known { IsKnown (problem_of inst.now) graph.now }
+    requires known { IsGraphOf inst.now graph.now }
     requires there { test < vec_len inst.now.costs }
     ensures { result ≡ is_some (step_value (problem_of inst.now) (known_up (problem_of inst.now) (rows_from graph.now.rows.items)) (members group.now) test) }
 {
-    has_up(inst, graph, &part(inst, group, test, Answer::Pass))
-        && has_up(inst, graph, &part(inst, group, test, Answer::Fail))
+    let parts = parts_of(inst, group, test);
+    has_up(inst, graph, &parts.pass) && has_up(inst, graph, &parts.fail)
 }
 
 /// Evaluates the tests that wait though both of their parts have an up.
@@ -44,9 +44,9 @@ pub(crate) fn look_at_all(
     graph: &mut Graph,
     place: usize,
 ) -> Result<(), AllocError>
-    requires known { IsKnown (problem_of inst.now) graph.old }
+    requires known { IsGraphOf inst.now graph.old }
     requires place { place < length graph.old.rows.items }
-    ensures known { IfOk result (λ _. IsKnown (problem_of inst.now) graph.new) }
+    ensures known { IfOk result (λ _. IsGraphOf inst.now graph.new) }
     ensures rows { IfOk result (λ _. graph.new.rows.items ≡ graph.old.rows.items) }
     ensures valued { IfOk result (λ _. NoneIsValued (problem_of inst.now) graph.new.rows.items graph.new.nodes.items place) }
     ensures listed { IfOk result (λ _. (s : Split) → Contains (splits_at graph.old.nodes.items place) s → Contains (splits_at graph.new.nodes.items place) s) }

@@ -10,17 +10,17 @@
 //! `Node::of` and `Node::evaluate` take no memory where there is room: in the numbers, and in the lists,
 //! which the caller hands in.
 ghost use Rattle.std.specs.Prelude.{◌≡◌, ◌<◌, ◌≤◌, [], length, All, IsOk, IfOk, OnOk, OnErr, vec_len, vec_capacity};
-ghost use Rattle.seq_theory.specs.Problem.{IsIn, IsWithin, splitting};
+ghost use Rattle.seq_theory.specs.Problem.{IsIn, splitting};
 ghost use Rattle.seq_theory.specs.Bound.{bound as bound_by, step_sum};
-ghost use Rattle.seq_inst.specs.Instances.{problem_of};
+ghost use Rattle.seq_inst.specs.Instances.{problem_of, IsGroupOf};
 ghost use Rattle.seq_inst.specs.Members.{members};
-ghost use Rattle.seq_graph.specs.GreedyChoice.{AreEstimates};
-ghost use Rattle.seq_graph.specs.Numbered.{Numbered, AreNumbers, KeepsNumbers};
-ghost use Rattle.seq_graph.specs.KeptOf.{HasParts, AreTestsOf, IsKeptOf, IsEvaluated, KeepsTests};
+ghost use Rattle.seq_graph.specs.GreedyChoice.{AreEstimatesFor};
+ghost use Rattle.seq_graph.specs.Numbered.{Numbered, KeepsNumbers, AreNumbersFor};
+ghost use Rattle.seq_graph.specs.KeptOf.{HasParts, AreTestsOf, IsKeptOf, EvaluatesAt, KeepsTests};
 
 use crate::greedy::Estimates;
 use crate::numbers::Numbers;
-use seq_inst::{Answer, Group, Instance, is_leaf, part, splits, weight_of};
+use seq_inst::{Group, Instance, is_leaf, parts_of, splits, weight_of};
 use std::alloc::AllocError;
 
 /// A test that splits a group, with the numbers of the part that passes it and the part that fails it.
@@ -57,19 +57,18 @@ fn split_by(
     group: &Group,
     test: u32,
 ) -> Result<Split, AllocError>
-    requires numbers { AreNumbers (problem_of inst.now) numbers.old }
-    requires within { IsWithin (problem_of inst.now) (members group.now) }
+    requires numbers { AreNumbersFor inst.now numbers.old }
+    requires within { IsGroupOf inst.now group.now }
     requires there { test < vec_len inst.now.costs }
-    ensures numbers { AreNumbers (problem_of inst.now) numbers.new }
+    ensures numbers { AreNumbersFor inst.now numbers.new }
     ensures keeps { KeepsNumbers numbers.old numbers.new }
     ensures test { IfOk result (λ s. s.test ≡ test) }
     ensures parts { IfOk result (HasParts (problem_of inst.now) numbers.new (members group.now)) }
     ensures succeeds { 2 ≤ numbers.old.room → IsOk result }
 {
-    let pass_part = part(inst, group, test, Answer::Pass);
-    let pass = numbers.number_of(inst, &pass_part)?;
-    let fail_part = part(inst, group, test, Answer::Fail);
-    let fail = numbers.number_of(inst, &fail_part)?;
+    let parts = parts_of(inst, group, test);
+    let pass = numbers.number_of(inst, &parts.pass)?;
+    let fail = numbers.number_of(inst, &parts.fail)?;
     Ok(Split { test, pass, fail })
 }
 
@@ -82,7 +81,7 @@ fn waiting_of(
     most: u64,
     mut waiting: Vec<Waiting>,
 ) -> Result<Vec<Waiting>, AllocError>
-    requires estimates { AreEstimates (problem_of inst.now) (members group.now) estimates.now }
+    requires estimates { AreEstimatesFor inst.now group.now estimates.now }
     requires empty { waiting.items ≡ [] }
     ensures tests { IfOk result (λ w. (v : Numbered) → AreTestsOf (problem_of inst.now) v (members group.now) (step_sum (problem_of inst.now) (bound_by (problem_of inst.now)) (members group.now)) most [] w.items) }
     ensures succeeds { vec_len inst.now.costs ≤ vec_capacity waiting → IsOk result }
@@ -111,11 +110,11 @@ impl Node {
         splits: Vec<Split>,
         waiting: Vec<Waiting>,
     ) -> Result<Node, AllocError>
-        requires numbers { AreNumbers (problem_of inst.now) numbers.old }
-        requires within { IsWithin (problem_of inst.now) (members group.now) }
+        requires numbers { AreNumbersFor inst.now numbers.old }
+        requires within { IsGroupOf inst.now group.now }
         requires no_splits { splits.items ≡ [] }
         requires none_wait { waiting.items ≡ [] }
-        ensures numbers { AreNumbers (problem_of inst.now) numbers.new }
+        ensures numbers { AreNumbersFor inst.now numbers.new }
         ensures keeps { KeepsNumbers numbers.old numbers.new }
         ensures kept { IfOk result (IsKeptOf (problem_of inst.now) numbers.new (members group.now)) }
         ensures none { IfOk result (λ k. k.splits.items ≡ []) }
@@ -158,15 +157,15 @@ impl Node {
         group: &Group,
         at: usize,
     ) -> Result<(), AllocError>
-        requires numbers { AreNumbers (problem_of inst.now) numbers.old }
-        requires within { IsWithin (problem_of inst.now) (members group.now) }
+        requires numbers { AreNumbersFor inst.now numbers.old }
+        requires within { IsGroupOf inst.now group.now }
         requires there { at < vec_len self.old.waiting }
         requires splits { All (λ w. IsIn w.test (splitting (problem_of inst.now) (members group.now))) self.old.waiting.items }
 
-        ensures numbers { AreNumbers (problem_of inst.now) numbers.new }
+        ensures numbers { AreNumbersFor inst.now numbers.new }
         ensures keeps { KeepsNumbers numbers.old numbers.new }
 
-        ensures evaluated { OnOk result (IsEvaluated (problem_of inst.now) numbers.new (members group.now) at self.old self.new) }
+        ensures evaluated { OnOk result (EvaluatesAt (problem_of inst.now) numbers.new (members group.now) at self.old self.new) }
         ensures tests { OnOk result (KeepsTests (problem_of inst.now) numbers.old numbers.new (members group.now) self.old self.new) }
 
         ensures err_splits { OnErr result (self.new.splits.items ≡ self.old.splits.items) }

@@ -1,24 +1,25 @@
 //! Groups by number, with what was worked out of each: its bound, and greedy's test and cost over it once
 //! these were asked for. A search meets the same groups again and again by other tests, so each of these
-//! is worked out once. Numbers go upwards from 0 in the order in which groups are met, so that whatever
+//! is worked out once. A group of which the bound alone is asked gets no number: the memo has such bounds.
+//! Numbers go upwards from 0 in the order in which groups are met, so that whatever
 //! else an engine knows of groups can stand in lists by number.
 //!
 //! `reserve` takes the memory for so many more groups. `number_within` takes none: it gives numbers while
 //! that room lasts. A group that is met later has none, and what is asked of it is worked out afresh, each
 //! time; so a lack of room costs time and changes no answer.
 ghost use Rattle.std.specs.Prelude.{◌≡◌, ◌+◌, ◌-◌, ◌++◌, ◌∷◌, [], ◌<◌, ◌≤◌, false, true, max, length, slice_get, slice_set, IsOk, IfOk, OnOk, OnErr, IfSome, IfNone, Some, None};
-ghost use Rattle.seq_theory.specs.Problem.{Problem, IsWithin, is_end};
+ghost use Rattle.seq_theory.specs.Problem.{Problem, is_end};
 ghost use Rattle.seq_theory.specs.Bound.{bound as bound_by};
 ghost use Rattle.seq_theory.specs.Graph.{is_entered};
 ghost use Rattle.seq_huff.specs.Bounds.{greatest_cost};
-ghost use Rattle.seq_inst.specs.Instances.{problem_of};
+ghost use Rattle.seq_inst.specs.Instances.{problem_of, IsGroupOf};
 ghost use Rattle.seq_inst.specs.Members.{members};
-ghost use Rattle.seq_graph.specs.GreedyChoice.{AreEstimates};
-ghost use Rattle.seq_graph.specs.Numbered.{capacity, HasNumber, HasGreedy, IsGreedyOf, AreNumbers, KeepsNumbers};
+ghost use Rattle.seq_graph.specs.GreedyChoice.{AreEstimatesFor};
+ghost use Rattle.seq_graph.specs.Numbered.{capacity, HasNumber, HasGreedy, IsGreedyOf, AreNumbers, KeepsNumbers, AreNumbersFor};
 
 use crate::greedy::{Estimates, Greedy, estimates_of};
+use crate::memo::BoundMemo;
 use indexmap::IndexMap;
-use seq_huff::{Order, Scratch, ordered_bound};
 use seq_inst::{Group, Instance, group_stands, is_leaf, same_words_hold};
 use std::alloc::{AllocError, Global};
 use std::marker::Model;
@@ -26,10 +27,8 @@ use std::marker::Model;
 /// Groups by number.
 #[derive(Drop)]
 pub struct Numbers {
-    /// The weights and the costs in order, so that no bound sorts them.
-    order: Order,
-    /// Room for the lists of one bound.
-    scratch: Scratch,
+    /// By which bounds are worked out, and the latest of them.
+    memo: BoundMemo,
     /// The bound of each group by its words, in the order of numbers.
     bounds: IndexMap<[u64; 8], u64>,
     /// Greedy's test and cost over each group, by number.
@@ -42,11 +41,11 @@ impl Model for Numbers {
     ghost use Rattle.std.specs.Prelude.{◌≡◌, ◌+◌, ◌^◌, ◌<◌, ◌≤◌, length, map, vec_capacity};
     ghost use Rattle.indexmap.specs.IndexMap.{keys, values, spare};
     ghost use Rattle.seq_core.specs.Words.{AreWords, classes_of};
-    ghost use Rattle.seq_graph.specs.Numbered.{Numbered};
+    ghost use Rattle.seq_graph.specs.Numbered.{Numbered, AreNumbersFor};
 
     ghost Value = { Numbered };
 
-    ghost view = { λ m. record { order = m.order; groups = map classes_of (keys m.bounds); bounds = values m.bounds; greedy = m.greedy.items; room = m.room } };
+    ghost view = { λ m. record { memo = m.memo; groups = map classes_of (keys m.bounds); bounds = values m.bounds; greedy = m.greedy.items; room = m.room } };
 
     ghost invariant = { λ m. record {
       words : AreWords (keys m.bounds);
@@ -60,13 +59,12 @@ impl Model for Numbers {
 impl Numbers {
     /// No numbers yet, and no room.
     pub fn new(alloc: Global, inst: &Instance) -> Result<Numbers, AllocError>
-        ensures numbers { IfOk result (AreNumbers (problem_of inst.now)) }
+        ensures numbers { IfOk result (AreNumbersFor inst.now) }
         ensures none { IfOk result (λ v. v.groups ≡ []) }
     {
-        let order = Order::of(alloc, inst)?;
+        let memo = BoundMemo::new(alloc, inst)?;
         Ok(Numbers {
-            order,
-            scratch: Scratch::new(),
+            memo,
             bounds: IndexMap::new(alloc),
             greedy: Vec::new(alloc),
             room: 0,
@@ -127,10 +125,10 @@ impl Numbers {
 
     /// Keeps greedy's test and cost over the group, where it has a number or there is room for one.
     pub(crate) fn keep_greedy(&mut self, inst: &Instance, group: &Group, greedy: Greedy)
-        requires numbers { AreNumbers (problem_of inst.now) self.old }
-        requires within { IsWithin (problem_of inst.now) (members group.now) }
+        requires numbers { AreNumbersFor inst.now self.old }
+        requires within { IsGroupOf inst.now group.now }
         requires greedy { IsGreedyOf (problem_of inst.now) (members group.now) greedy }
-        ensures numbers { AreNumbers (problem_of inst.now) self.new }
+        ensures numbers { AreNumbersFor inst.now self.new }
         ensures keeps { KeepsNumbers self.old self.new }
         ensures capacity { capacity self.new ≡ capacity self.old }
     {
@@ -190,26 +188,26 @@ impl Numbers {
 
     /// Gives the group, which has no number, the next one, with its bound.
     fn next_number(&mut self, inst: &Instance, group: &Group) -> u32
-        requires numbers { AreNumbers (problem_of inst.now) self.old }
-        requires within { IsWithin (problem_of inst.now) (members group.now) }
+        requires numbers { AreNumbersFor inst.now self.old }
+        requires within { IsGroupOf inst.now group.now }
         requires absent { is_entered self.old.groups (members group.now) ≡ false }
         requires room { 0 < self.old.room }
-        ensures numbers { AreNumbers (problem_of inst.now) self.new }
+        ensures numbers { AreNumbersFor inst.now self.new }
         ensures keeps { KeepsNumbers self.old self.new }
         ensures number { HasNumber self.new (members group.now) result }
         ensures capacity { capacity self.new ≡ capacity self.old }
         ensures one { self.old.room ≤ self.new.room + 1 }
     {
-        let bound = self.fresh_bound(inst, group);
+        let bound = self.memo_bound(inst, group);
         self.add(group, bound)
     }
 
     /// The number of the group. One that has none gets the next one, with its bound. It takes memory only
     /// where the group has no number and no room is left.
     pub fn number_of(&mut self, inst: &Instance, group: &Group) -> Result<u32, AllocError>
-        requires numbers { AreNumbers (problem_of inst.now) self.old }
-        requires within { IsWithin (problem_of inst.now) (members group.now) }
-        ensures numbers { AreNumbers (problem_of inst.now) self.new }
+        requires numbers { AreNumbersFor inst.now self.old }
+        requires within { IsGroupOf inst.now group.now }
+        ensures numbers { AreNumbersFor inst.now self.new }
         ensures keeps { KeepsNumbers self.old self.new }
         ensures number { IfOk result (HasNumber self.new (members group.now)) }
 
@@ -230,9 +228,9 @@ impl Numbers {
     /// The number of the group. One that has none gets the next one, with its bound, while there is room.
     /// It takes no memory.
     pub fn number_within(&mut self, inst: &Instance, group: &Group) -> Option<u32>
-        requires numbers { AreNumbers (problem_of inst.now) self.old }
-        requires within { IsWithin (problem_of inst.now) (members group.now) }
-        ensures numbers { AreNumbers (problem_of inst.now) self.new }
+        requires numbers { AreNumbersFor inst.now self.old }
+        requires within { IsGroupOf inst.now group.now }
+        ensures numbers { AreNumbersFor inst.now self.new }
         ensures keeps { KeepsNumbers self.old self.new }
 
         // None comes only where the group has no number and no room is left.
@@ -253,33 +251,33 @@ impl Numbers {
         Some(self.next_number(inst, group))
     }
 
-    /// The bound of the group, worked out afresh.
-    fn fresh_bound(&mut self, inst: &Instance, group: &Group) -> u64
-        requires numbers { AreNumbers (problem_of inst.now) self.old }
-        requires within { IsWithin (problem_of inst.now) (members group.now) }
-        ensures unchanged { self.new ≡ self.old }
+    /// The bound of the group, by the memo. No number changes.
+    fn memo_bound(&mut self, inst: &Instance, group: &Group) -> u64
+        requires numbers { AreNumbersFor inst.now self.old }
+        requires within { IsGroupOf inst.now group.now }
+        ensures numbers { AreNumbersFor inst.now self.new }
+        ensures same { self.new ≡ record self.old { memo = self.new.memo } }
         ensures value { result ≡ bound_by (problem_of inst.now) (members group.now) }
         ensures fits { result ≤ greatest_cost }
     {
-        ordered_bound(&mut self.scratch, &self.order, inst, group)
+        self.memo.bound_of(inst, group)
     }
 
     /// The estimates of the tests that split the group, which has two goals or more.
     pub(crate) fn estimates(&self, inst: &Instance, group: &Group) -> Estimates
-        requires numbers { AreNumbers (problem_of inst.now) self.now }
-        requires within { IsWithin (problem_of inst.now) (members group.now) }
+        requires numbers { AreNumbersFor inst.now self.now }
+        requires within { IsGroupOf inst.now group.now }
         requires more { is_end (problem_of inst.now) (members group.now) ≡ false }
-        ensures { AreEstimates (problem_of inst.now) (members group.now) result }
+        ensures { AreEstimatesFor inst.now group.now result }
     {
-        estimates_of(&self.order, inst, group)
+        estimates_of(&self.memo.order, inst, group)
     }
 
-    /// The bound of the group. A group of two goals or more gets a number where there is room; one of
-    /// one goal needs none, as its bound is 0.
+    /// The bound of the group: what is kept where it has a number, else by the memo. It gets no number.
     pub(crate) fn bound_within(&mut self, inst: &Instance, group: &Group) -> u64
-        requires numbers { AreNumbers (problem_of inst.now) self.old }
-        requires within { IsWithin (problem_of inst.now) (members group.now) }
-        ensures numbers { AreNumbers (problem_of inst.now) self.new }
+        requires numbers { AreNumbersFor inst.now self.old }
+        requires within { IsGroupOf inst.now group.now }
+        ensures numbers { AreNumbersFor inst.now self.new }
         ensures keeps { KeepsNumbers self.old self.new }
         ensures capacity { capacity self.new ≡ capacity self.old }
         ensures value { result ≡ bound_by (problem_of inst.now) (members group.now) }
@@ -288,9 +286,9 @@ impl Numbers {
         if is_leaf(inst, group) {
             return 0;
         }
-        match self.number_within(inst, group) {
+        match self.find(group) {
             Some(number) => self.bound_at(number),
-            None => self.fresh_bound(inst, group),
+            None => self.memo_bound(inst, group),
         }
     }
 }

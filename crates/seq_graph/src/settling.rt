@@ -8,7 +8,7 @@
 ghost use Rattle.std.specs.Prelude.{◌≡◌, ◌<◌, length, slice_set, IfOk};
 ghost use Rattle.seq_inst.specs.Instances.{problem_of};
 ghost use Rattle.seq_core.specs.Settled.{groups_in, size_at, settled_row, settled_rows, AreSettledBelow};
-ghost use Rattle.seq_graph.specs.Known.{IsKnown, AreSound, row_at};
+ghost use Rattle.seq_graph.specs.Known.{AreSound, row_at, IsGraphOf};
 
 use crate::bounds::bounds_by;
 use crate::choice::least_test;
@@ -21,11 +21,11 @@ use std::alloc::{AllocError, Global};
 
 /// Gives the row at a place its low and its value, where those of all smaller groups are settled.
 fn settle_row(inst: &Instance, graph: &mut Graph, place: usize) -> Result<(), AllocError>
-    requires known { IsKnown (problem_of inst.now) graph.old }
+    requires known { IsGraphOf inst.now graph.old }
     requires place { place < length graph.old.rows.items }
     requires sound { AreSound (problem_of inst.now) graph.old.rows.items }
     requires below { AreSettledBelow (problem_of inst.now) graph.old.rows.items (size_at graph.old.rows.items place) }
-    ensures known { IfOk result (λ _. IsKnown (problem_of inst.now) graph.new) }
+    ensures known { IfOk result (λ _. IsGraphOf inst.now graph.new) }
     ensures rows { IfOk result (λ _. graph.new.rows.items ≡ slice_set graph.old.rows.items place (settled_row (problem_of inst.now) (groups_in graph.old.rows.items) (row_at graph.old.rows.items place))) }
     ensures sound { IfOk result (λ _. AreSound (problem_of inst.now) graph.new.rows.items) }
 {
@@ -43,9 +43,9 @@ fn settle_row(inst: &Instance, graph: &mut Graph, place: usize) -> Result<(), Al
 
 /// Gives each row the low and the value that the rows' groups give it together.
 pub fn settle(alloc: Global, inst: &Instance, graph: &mut Graph) -> Result<(), AllocError>
-    requires known { IsKnown (problem_of inst.now) graph.old }
+    requires known { IsGraphOf inst.now graph.old }
     requires sound { AreSound (problem_of inst.now) graph.old.rows.items }
-    ensures known { IfOk result (λ _. IsKnown (problem_of inst.now) graph.new) }
+    ensures known { IfOk result (λ _. IsGraphOf inst.now graph.new) }
     ensures rows { IfOk result (λ _. graph.new.rows.items ≡ settled_rows (problem_of inst.now) graph.old.rows.items) }
 {
     turns_settle();

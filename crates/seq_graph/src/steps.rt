@@ -6,13 +6,14 @@ ghost use Rattle.std.specs.Prelude.{◌≡◌, ◌<◌, List, ℕ, length, IfOk}
 ghost use Rattle.seq_inst.specs.Members.{members};
 ghost use Rattle.seq_inst.specs.Instances.{problem_of};
 ghost use Rattle.seq_graph.specs.Numbered.{HasNumber};
-ghost use Rattle.seq_graph.specs.Known.{IsKnown, group_at};
+ghost use Rattle.seq_graph.specs.Known.{group_at, IsGraphOf};
 ghost use Rattle.seq_graph.specs.Steps.{IsStep, EntersFirst, step_by};
 ghost use Rattle.seq_graph.specs.Parts.{IsKnowledge};
 
 use crate::choice::least_test;
 use crate::graph::Graph;
 use seq_inst::{Answer, Group, Instance};
+use seq_theory::walks_hold;
 use std::alloc::AllocError;
 
 /// What a walk does at a group.
@@ -39,7 +40,7 @@ enum Knowledge {
 
 /// What is known of the part of a number. A part that has no row and an up has one goal.
 fn knowledge_of(inst: &Instance, graph: &Graph, number: u32) -> Knowledge
-    requires known { IsKnown (problem_of inst.now) graph.now }
+    requires known { IsGraphOf inst.now graph.now }
     requires there { number < length graph.now.numbers.groups }
     ensures { (part : List ℕ) → HasNumber graph.now.numbers part number → IsKnowledge (problem_of inst.now) graph.now.rows.items part result }
 {
@@ -91,13 +92,14 @@ pub fn next_step(
     place: usize,
     first: Answer,
 ) -> Result<Step, AllocError>
-    requires known { IsKnown (problem_of inst.now) graph.old }
+    requires known { IsGraphOf inst.now graph.old }
     requires place { place < length graph.old.rows.items }
-    ensures known { IfOk result (λ _. IsKnown (problem_of inst.now) graph.new) }
+    ensures known { IfOk result (λ _. IsGraphOf inst.now graph.new) }
     ensures rows { IfOk result (λ _. graph.new.rows.items ≡ graph.old.rows.items) }
     ensures step { IfOk result (IsStep (problem_of inst.now) graph.old.rows.items (members (group_at graph.old.rows.items place))) }
     ensures first { IfOk result (EntersFirst (problem_of inst.now) graph.old.rows.items (members (group_at graph.old.rows.items place)) first) }
 {
+    walks_hold();
     let split = least_test(inst, graph, place)?.split;
     let pass_part = graph.numbers.group_at(split.pass);
     let fail_part = graph.numbers.group_at(split.fail);

@@ -1,7 +1,6 @@
 //! What is kept of a group, and numbers while there is room for them, on a worked instance.
 ghost use Rattle.std.specs.Prelude.{◌≡◌, [], ◌∷◌, IfOk};
-ghost use Rattle.seq_inst.specs.Instances.{problem_of};
-ghost use Rattle.seq_graph.specs.Numbered.{AreNumbers};
+ghost use Rattle.seq_graph.specs.Numbered.{AreNumbersFor};
 
 use crate::{Node, Numbers, Split};
 use seq_inst::{Answer, Group, Instance, Strategy, checked_holds, part, root};
@@ -25,15 +24,15 @@ fn two_faults(alloc: Global) -> Result<Instance, AllocError>
 
 /// No numbers yet. That they are the instance's is one clause here.
 fn no_numbers(alloc: Global, inst: &Instance) -> Result<Numbers, AllocError>
-    ensures { IfOk result (AreNumbers (problem_of inst.now)) }
+    ensures { IfOk result (AreNumbersFor inst.now) }
 {
     Numbers::new(alloc, inst)
 }
 
 /// Room for one more group. That the numbers stay the instance's is one clause here.
 fn more_room(inst: &Instance, numbers: &mut Numbers) -> Result<(), AllocError>
-    requires { AreNumbers (problem_of inst.now) numbers.old }
-    ensures { AreNumbers (problem_of inst.now) numbers.new }
+    requires { AreNumbersFor inst.now numbers.old }
+    ensures { AreNumbersFor inst.now numbers.new }
 {
     let _ = inst;
     numbers.reserve(1)

@@ -1,9 +1,8 @@
 //! The tests of a group that wait to be evaluated. Each waits with a number that is at most its sum. The
 //! test that is evaluated next is the one of least number, until all numbers are above the least sum.
 ghost use Rattle.std.specs.Prelude.{◌≡◌, ◌<◌, ◌++◌, ◌∷◌, length, take, Contains, IfOk, IfSome, IfNone, []};
-ghost use Rattle.seq_inst.specs.Instances.{problem_of};
 ghost use Rattle.seq_graph.specs.declared.node.Split.{Split};
-ghost use Rattle.seq_graph.specs.Known.{IsKnown, splits_at, waiting_at};
+ghost use Rattle.seq_graph.specs.Known.{splits_at, waiting_at, IsGraphOf};
 ghost use Rattle.seq_graph.specs.Choice.{IsLeastWaiting, IsCertain};
 
 use crate::choice::Chosen;
@@ -49,10 +48,10 @@ pub(crate) fn evaluate(
     place: usize,
     at: usize,
 ) -> Result<Split, AllocError>
-    requires known { IsKnown (problem_of inst.now) graph.old }
+    requires known { IsGraphOf inst.now graph.old }
     requires place { place < length graph.old.rows.items }
     requires there { at < length (waiting_at graph.old.nodes.items place) }
-    ensures known { IfOk result (λ _. IsKnown (problem_of inst.now) graph.new) }
+    ensures known { IfOk result (λ _. IsGraphOf inst.now graph.new) }
     ensures rows { IfOk result (λ _. graph.new.rows.items ≡ graph.old.rows.items) }
     ensures last { IfOk result (λ s. splits_at graph.new.nodes.items place ≡ splits_at graph.old.nodes.items place ++ s ∷ []) }
     ensures before { IfOk result (λ _. take at (waiting_at graph.new.nodes.items place) ≡ take at (waiting_at graph.old.nodes.items place)) }

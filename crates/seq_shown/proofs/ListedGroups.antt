@@ -9,7 +9,7 @@ use Rattle.seq_theory.specs.Problem.{Problem, IsIn, all_classes, is_end}
 use Rattle.seq_theory.specs.Graph.{same_group, is_entered, low, IsReal}
 use Rattle.seq_theory.specs.Claims.{Claim, IsClaim, ClaimsHold, low_claims}
 use Rattle.seq_theory.proofs.RowLaws.{same_group-true, same_group-refl, wanted-within}
-use Rattle.seq_theory.proofs.ClaimLaws.{low_claims-hold}
+use Rattle.seq_theory.specs.Laws.{LowsAreClaims}
 use Rattle.seq_inst.specs.Members.{members}
 use Rattle.seq_inst.specs.declared.group.Group.{Group}
 use Rattle.seq_cert.specs.declared.report.GroupLine.{GroupLine}
@@ -105,8 +105,8 @@ module _ (p : Problem) (entered : List (List ℕ)) where
   at-lines [] group = refl
   at-lines (line ∷ lines) group = ap (λ b. same_group group (members line.group) || b) (at-lines lines group)
 
-  claims-hold : (lines : List GroupLine) → AllByRecursion (IsLineOf p entered) lines → ((g : List ℕ) → list_any (λ (line : GroupLine). same_group g (members line.group)) lines ≡ is_entered entered g) → ((g : List ℕ) → is_entered entered g ≡ true → is_end p g ≡ false) → ClaimsHold p (claims_of lines)
-  claims-hold lines of listed more = subst (ClaimsHold p) (low-claims lines of) (low_claims-hold p entered (groups_at_lines lines) (λ g. at-lines lines g ∙ listed g) more)
+  claims-hold : LowsAreClaims → (lines : List GroupLine) → AllByRecursion (IsLineOf p entered) lines → ((g : List ℕ) → list_any (λ (line : GroupLine). same_group g (members line.group)) lines ≡ is_entered entered g) → ((g : List ℕ) → is_entered entered g ≡ true → is_end p g ≡ false) → ClaimsHold p (claims_of lines)
+  claims-hold law lines of listed more = subst (ClaimsHold p) (low-claims lines of) (law p entered (groups_at_lines lines) (λ g. at-lines lines g ∙ listed g) more)
 
   each-allowed : (claims : List Claim) (lines : List GroupLine) → ((c : Claim) → IsClaim c (claims_of lines) → c.low ≤ most_claimed p claims c.group) → AllByRecursion (λ (line : GroupLine). nat_le line.low (most_claimed p claims (members line.group)) ≡ true) lines
   each-allowed claims [] hold = tt
@@ -135,9 +135,9 @@ module _ (p : Problem) (entered : List (List ℕ)) where
         (lines-good (k + 1) (Some line) lines of.1 allowed.1 follows.1 (rest-ends line lines ends))
 
   -- lines in order, of all entered groups, one of which is the group of all classes
-  pub groups-good : (k : ℕ) (lines : List GroupLine) → AllByRecursion (IsLineOf p entered) lines → AreUp lines → ((g : List ℕ) → list_any (λ (line : GroupLine). same_group g (members line.group)) lines ≡ is_entered entered g) → ((g : List ℕ) → is_entered entered g ≡ true → is_end p g ≡ false)
+  pub groups-good : LowsAreClaims → (k : ℕ) (lines : List GroupLine) → AllByRecursion (IsLineOf p entered) lines → AreUp lines → ((g : List ℕ) → list_any (λ (line : GroupLine). same_group g (members line.group)) lines ≡ is_entered entered g) → ((g : List ℕ) → is_entered entered g ≡ true → is_end p g ≡ false)
       → (is_end p (all_classes p) ≡ false → is_entered entered (all_classes p) ≡ true) → AreGood (group_looks p k (low p entered (all_classes p)) (claims_of lines) None lines)
-  groups-good k lines of up listed more root = lines-good (claims_of lines) (low p entered (all_classes p)) k None lines of (each-allowed (claims_of lines) lines (claims-hold lines of listed more)) (after-none lines up) (ends (cases_Bool (is_end p (all_classes p))))
+  groups-good law k lines of up listed more root = lines-good (claims_of lines) (low p entered (all_classes p)) k None lines of (each-allowed (claims_of lines) lines (claims-hold law lines of listed more)) (after-none lines up) (ends (cases_Bool (is_end p (all_classes p))))
     where
       one-goal : (lines : List GroupLine) → is_end p (all_classes p) ≡ true → EndsWithRoot p (low p entered (all_classes p)) lines
       one-goal [] e = tt

@@ -6,6 +6,7 @@ use Rattle.std.specs.Prelude.{true, false}
 use Rattle.std.specs.List.{AllByRecursion, list_any}
 use Rattle.std.proofs.lemmas.Bool.{or_cases, false≢true}
 use Rattle.std.proofs.lemmas.List.Elements.{recursion_from_All}
+use Rattle.seq_theory.specs.Laws.{LowsAreClaims}
 use Rattle.seq_theory.specs.Problem.{Problem, IsWeighed, AreTold, is_end}
 use Rattle.seq_theory.specs.Graph.{same_group, is_entered, IsReal}
 use Rattle.seq_theory.proofs.RowLaws.{same_group-true}
@@ -40,7 +41,7 @@ entered-more p (r ∷ rows) real g e = elim (or_cases (same_group g (members r.g
   | inr later ↦ entered-more p rows real.1 g later
 ]
 
-module _ (p : Problem) (labels : Labels) (limit : ℕ) (o : Outcome) (w : IsWeighed p) (told : AreTold p) (right : IsRightOutcome p limit o) where
+module _ (law : LowsAreClaims) (p : Problem) (labels : Labels) (limit : ℕ) (o : Outcome) (w : IsWeighed p) (told : AreTold p) (right : IsRightOutcome p limit o) where
   real : AllByRecursion (λ (r : Row). IsReal p (members r.group)) o.rows.items
   real = recursion_from_All (λ (r : Row). IsReal p (members r.group)) o.rows.items (right.entered).real
 
@@ -57,7 +58,7 @@ module _ (p : Problem) (labels : Labels) (limit : ℕ) (o : Outcome) (w : IsWeig
       let of = all-in_order (IsLineOf p (groups_in o.rows.items)) lines (row-lines p (groups_in o.rows.items) o.rows.items real settled) in
       let up = up-in_order lines (rows-apart o.rows.items (right.entered).distinct (in_order-all IsGroupLine lines words)) in
       subst (λ n. AreGood (group_looks p k n (claims_of (in_order lines)) None (in_order lines))) right.low_is
-      (groups-good p (groups_in o.rows.items) k (in_order lines) of up listed (entered-more p o.rows.items real) (right.entered).root)
+      (groups-good p (groups_in o.rows.items) law k (in_order lines) of up listed (entered-more p o.rows.items real) (right.entered).root)
 
   head : AreGood (head_looks p labels (report_from p o labels))
   unfolding head_looks

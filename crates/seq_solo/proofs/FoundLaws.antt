@@ -20,7 +20,7 @@ use Rattle.seq_core.specs.Entered.{MayStop}
 use Rattle.seq_solo.proofs.RowLaws.{length-Narrows, group-Narrows, row-among, row-entered}
 use Rattle.seq_graph.specs.Known.{AreSound, no_row, row_at, group_at, Narrows, IsClosedAt}
 use Rattle.seq_graph.specs.Walks.{HasMoved, IsStopped, HasTurned}
-use Rattle.seq_solo.specs.Found.{BeginsWithAll, IsSolved, IsFull, HasEnded}
+use Rattle.seq_solo.specs.Found.{BeginsWithAll, IsSolved, StoppedAtLimit, HasEnded}
 
 -- a walk under way: the rows are sound, the first is that of all classes, and there are no more than the limit allows
 pub record IsWalking (p : Problem) (limit : ℕ) (rows : List Row) : Type 0 where
@@ -65,6 +65,14 @@ goes-on p limit old new w sound m =
 pub sound-more : (p : Problem) (limit : ℕ) (rows : List Row) → AreSound p rows → length rows ≤ limit → IsSound p limit (rows_from rows)
 sound-more p limit rows s le = let few = s.few in record { few = omega arith; distinct = s.distinct; real = s.real; lows = s.lows; ups = s.ups }
 
+-- and under their own number
+pub sound-long : (p : Problem) (limit : ℕ) (rows : List Row) → IsSound p limit (rows_from rows) → AreSound p rows
+sound-long p limit rows s = record { few = (let l = length-from rows in omega arith); distinct = s.distinct; real = s.real; lows = s.lows; ups = s.ups }
+  where
+    length-from : (l : List Row) → length (rows_from l) ≡ length l
+    length-from [] = refl
+    length-from (r ∷ rest) = ap suc (length-from rest)
+
 pub walking-sound : (p : Problem) (limit : ℕ) (rows : List Row) → IsWalking p limit rows → IsSound p limit (rows_from rows)
 walking-sound p limit rows w = sound-more p limit rows w.sound w.few
 
@@ -99,7 +107,7 @@ solved inst limit rows w closed =
       enough = subst (λ g. val p (groups_of (rows_from rows)) g ≡ Some (low p (groups_of (rows_from rows)) g)) w.first (closed-enough inst rows w.sound 0 (omega arith) closed);
     }
 
-pub full : (p : Problem) (limit : ℕ) (old rows : List Row) (missed : Group) → (row_at old 0).low ≢ (row_at old 0).up → IsStopped p limit old rows missed → IsFull p limit rows missed
+pub full : (p : Problem) (limit : ℕ) (old rows : List Row) (missed : Group) → (row_at old 0).low ≢ (row_at old 0).up → IsStopped p limit old rows missed → StoppedAtLimit p limit rows missed
 full p limit old rows missed apart s = record {
   many = s.many;
   apart = subst (λ l. (row_at l 0).low ≡ (row_at l 0).up → ⊥) (sym s.same) apart;

@@ -21,7 +21,7 @@ pub record IsSolved (p : Problem) (rows : List Row) : Type 0 where
   pub enough : val p (groups_of (rows_from rows)) (all_classes p) ≡ Some (low p (groups_of (rows_from rows)) (all_classes p))
 
 -- as many groups were entered as the limit allows, the group of all classes is open, and a real group has no row
-pub record IsFull (p : Problem) (limit : ℕ) (rows : List Row) (missed : Group) : Type 0 where
+pub record StoppedAtLimit (p : Problem) (limit : ℕ) (rows : List Row) (missed : Group) : Type 0 where
   pub many : length rows ≡ limit
   pub apart : (row_at rows 0).low ≢ (row_at rows 0).up
   pub real : IsReal p (members missed)
@@ -30,4 +30,4 @@ pub record IsFull (p : Problem) (limit : ℕ) (rows : List Row) (missed : Group)
 -- nothing is missed exactly where the search is solved
 abbrev pub HasEnded : Problem → ℕ → List Row → Option Group → Type 0
 HasEnded p limit rows None = IsSolved p rows
-HasEnded p limit rows (Some missed) = IsFull p limit rows missed
+HasEnded p limit rows (Some missed) = StoppedAtLimit p limit rows missed

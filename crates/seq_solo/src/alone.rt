@@ -9,7 +9,7 @@ ghost use Rattle.seq_inst.specs.Instances.{problem_of};
 ghost use Rattle.seq_core.specs.RowsOf.{rows_of as rows_from};
 ghost use Rattle.seq_core.specs.Settled.{groups_in};
 ghost use Rattle.seq_core.specs.Entered.{MayStop};
-ghost use Rattle.seq_graph.specs.Known.{IsKnown};
+ghost use Rattle.seq_graph.specs.Known.{IsGraphOf};
 ghost use Rattle.seq_solo.specs.Found.{BeginsWithAll, HasEnded};
 
 use crate::found::{Found, Walked};
@@ -22,7 +22,7 @@ use std::alloc::{AllocError, Global};
 pub fn walk(alloc: Global, inst: &Instance, limit: u32) -> Result<Walked, AllocError>
     requires some { 1 ≤ limit }
     requires few { limit ≤ 32768 }
-    ensures known { IfOk result (λ w. IsKnown (problem_of inst.now) w.graph) }
+    ensures known { IfOk result (λ w. IsGraphOf inst.now w.graph) }
     ensures few { IfOk result (λ w. length w.graph.rows.items ≤ limit) }
     ensures sound { IfOk result (λ w. IsSound (problem_of inst.now) limit (rows_from w.graph.rows.items)) }
     ensures first { IfOk result (λ w. BeginsWithAll (problem_of inst.now) w.graph.rows.items) }

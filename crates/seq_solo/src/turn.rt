@@ -2,7 +2,7 @@
 //! it came through are raised and capped from below upwards.
 ghost use Rattle.std.specs.Prelude.{◌≡◌, ◌≢◌, ◌<◌, ◌≤◌, length, IfOk};
 ghost use Rattle.seq_inst.specs.Instances.{problem_of};
-ghost use Rattle.seq_graph.specs.Known.{IsKnown, AreSound, row_at};
+ghost use Rattle.seq_graph.specs.Known.{AreSound, row_at, IsGraphOf};
 ghost use Rattle.seq_graph.specs.Walks.{HasTurned};
 
 use seq_graph::{Graph, Step, back_up, enter, next_step, turns_move};
@@ -18,13 +18,13 @@ pub(crate) fn turn(
     graph: &mut Graph,
     place: usize,
 ) -> Result<Option<Group>, AllocError>
-    requires known { IsKnown (problem_of inst.now) graph.old }
+    requires known { IsGraphOf inst.now graph.old }
     requires sound { AreSound (problem_of inst.now) graph.old.rows.items }
     requires few { length graph.old.rows.items ≤ limit }
     requires place { place < length graph.old.rows.items }
     requires apart { (row_at graph.old.rows.items place).low ≢ (row_at graph.old.rows.items place).up }
     requires small { limit ≤ 32768 }
-    ensures known { IfOk result (λ _. IsKnown (problem_of inst.now) graph.new) }
+    ensures known { IfOk result (λ _. IsGraphOf inst.now graph.new) }
     ensures sound { IfOk result (λ _. AreSound (problem_of inst.now) graph.new.rows.items) }
     ensures turned { IfOk result (HasTurned (problem_of inst.now) limit graph.old.rows.items graph.new.rows.items) }
 {

@@ -3,7 +3,7 @@
 ghost use Rattle.std.specs.Prelude.{◌≡◌};
 ghost use Rattle.seq_theory.specs.Graph.{IsReal};
 ghost use Rattle.seq_inst.specs.Members.{members};
-ghost use Rattle.seq_words.specs.Knowledge.{problem_in, Covers};
+ghost use Rattle.seq_words.specs.Knowledge.{problem_in, AreAlone, Covers};
 ghost use Rattle.seq_words.specs.Seats.{IsOf};
 ghost use Rattle.seq_table.specs.Agreed.{Agreed};
 ghost use Rattle.seq_table.specs.Enters.{Enters};
@@ -11,7 +11,7 @@ ghost use Rattle.seq_table.specs.Enters.{Enters};
 use crate::naming::Naming;
 use seq_core::Places;
 use seq_inst::Group;
-use seq_words::{Scribe, Seat, Words, learn, publish};
+use seq_words::{Scribe, Seat, Words, learn_at, publish};
 use std::marker::{Model, PhantomData};
 
 /// What entering a group gave: its place, or that all places are drawn, and how many these are.
@@ -74,17 +74,18 @@ impl<N: Naming> Desk<N> {
     }
 
     /// Gives the group a place, and tells the seat all that the scribe knows.
-    pub fn enter(&mut self, words: &Words, seat: Seat, group: &Group) -> (Seat, Entered)
+    pub fn enter_at(&mut self, words: &Words, seat: &mut Seat, group: &Group) -> Entered
         requires words { words.now ≡ N.words }
-        requires seat { IsOf N.words seat }
+        requires seat { IsOf N.words seat.old }
         requires real { IsReal (problem_in N.words.told) (members group.now) }
-        ensures of { IsOf N.words result.0 }
-        ensures covers { Covers result.0.view seat.view }
-        ensures entered { Enters N.words group.now result.0 result.1 }
+        ensures of { IsOf N.words seat.new }
+        ensures covers { Covers seat.new.view seat.old.view }
+        ensures alone { AreAlone seat.new.view }
+        ensures entered { Enters N.words group.now seat.new result }
     {
         let entered = self.draw(words, group);
-        let seat = learn(words, &mut self.scribe, seat);
-        (seat, entered)
+        learn_at(words, &mut self.scribe, seat);
+        entered
     }
 
     /// Gives the scribe back.

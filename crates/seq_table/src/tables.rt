@@ -2,7 +2,7 @@
 ghost use Rattle.std.specs.Prelude.{◌≡◌};
 ghost use Rattle.seq_theory.specs.Graph.{IsReal};
 ghost use Rattle.seq_inst.specs.Members.{members};
-ghost use Rattle.seq_words.specs.Knowledge.{problem_in, Covers};
+ghost use Rattle.seq_words.specs.Knowledge.{problem_in, AreAlone, Covers};
 ghost use Rattle.seq_words.specs.Seats.{IsOf};
 ghost use Rattle.seq_table.specs.Agreed.{Agreed};
 ghost use Rattle.seq_table.specs.Enters.{Enters};
@@ -30,8 +30,28 @@ impl<N: Naming + Send + Sync> Tables<N> {
         }
     }
 
-    /// Enters a group: the seat that comes back knows its place, whether it was there or is new; or it
-    /// knows all places, and none is the group's. It keeps all that it knew. Takes no memory.
+    /// Enters a group: the seat then knows its place, whether it was there or is new; or it knows all places,
+    /// and none is the group's. It keeps all that it knew, and knows no two places with the same group. Takes
+    /// no memory.
+    pub fn enter_at<R: Wait>(
+        &self,
+        rt: &R,
+        words: &Words,
+        seat: &mut Seat,
+        group: &Group,
+    ) -> Entered
+        requires words { words.now ≡ N.words }
+        requires seat { IsOf N.words seat.old }
+        requires real { IsReal (problem_in N.words.told) (members group.now) }
+        ensures of { IsOf N.words seat.new }
+        ensures covers { Covers seat.new.view seat.old.view }
+        ensures alone { AreAlone seat.new.view }
+        ensures entered { Enters N.words group.now seat.new result }
+    {
+        self.desk.lock(rt).enter_at(words, seat, group)
+    }
+
+    /// The same, of a seat by value.
     pub fn enter<R: Wait>(
         &self,
         rt: &R,
@@ -44,9 +64,12 @@ impl<N: Naming + Send + Sync> Tables<N> {
         requires real { IsReal (problem_in N.words.told) (members group.now) }
         ensures of { IsOf N.words result.0 }
         ensures covers { Covers result.0.view seat.view }
+        ensures alone { AreAlone result.0.view }
         ensures entered { Enters N.words group.now result.0 result.1 }
     {
-        self.desk.lock(rt).enter(words, seat, group)
+        let mut seat = seat;
+        let entered = self.enter_at(rt, words, &mut seat, group);
+        (seat, entered)
     }
 
     /// The scribe, for the end. The index is dropped.

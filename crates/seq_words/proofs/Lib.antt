@@ -9,6 +9,7 @@ pub mod CoreEvents
 pub mod BoundSteps
 pub mod SeeSteps
 pub mod PublishSteps
+pub mod Alone
 pub mod ShareSteps
 pub mod Covering
 pub mod Published

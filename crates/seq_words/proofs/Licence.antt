@@ -9,21 +9,10 @@ use Rattle.seq_theory.specs.Bound.{step_sum}
 use Rattle.seq_theory.specs.Greedy.{greedy_cost}
 use Rattle.seq_theory.specs.Graph.{same_group, is_entered, step_value, sum_with}
 use Rattle.seq_theory.specs.Rows.{Row, no_value, groups_of, IsRow, AreDistinct, row_for, up_or, known_low, known_up, most_low, least_up}
+use Rattle.seq_words.specs.Laws.{IsBettered, AreBettered, KnowingMoreAllows}
 use Rattle.seq_theory.proofs.PartsRecursion.{least_of-mono}
 use Rattle.seq_theory.proofs.ValLaws.{least_of-values-le, least_of-first, values-at_least, sum_with-parts}
 use Rattle.seq_theory.proofs.RowLaws.{same_group-true, same_group-refl, or-left, or-right}
-
--- the other rows have this one, with bounds that are no worse
-pub record IsBettered (rows : List Row) (r : Row) : Type 0 where
-  pub by : Row
-  pub among : IsRow by rows
-  pub group : by.group ≡ r.group
-  pub low : r.low ≤ by.low
-  pub up : by.up ≤ r.up
-  pub most : r.up ≤ no_value
-
-abbrev pub AreBettered : List Row → List Row → Type 0
-AreBettered known rows = (r : Row) → IsRow r known → IsBettered rows r
 
 -- the row of a group that is found
 record Found (rows : List Row) (group : List ℕ) (r : Row) : Type 0 where
@@ -155,3 +144,9 @@ module _ (p : Problem) (known rows : List Row) (distinct : AreDistinct (groups_o
       let l2 = b2.le in
       let l3 = parts.sum in
       omega arith)
+
+pub knowing-more : KnowingMoreAllows
+knowing-more p known rows distinct bettered group = record {
+  low = most_low-grows p known rows distinct bettered group;
+  up = least_up-falls p known rows distinct bettered group;
+}

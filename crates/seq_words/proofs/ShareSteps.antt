@@ -1,5 +1,5 @@
 -- Seats that are split and joined, and the load at which two seats' knowledge is put together.
-use Rattle.std.proofs.Common.{◌≡◌, ◌≢◌, ◌⊎◌, inl, inr, ⊎_elim, ℕ, zero, suc, ◌<◌, ◌≤◌, Bool, true, false, ◌||◌, cond, ltb, true≢false, List, [], ◌∷◌, length, get_or, set, refl, sym, ap, ◌∙◌, subst, arith}
+use Rattle.std.proofs.Common.{◌≡◌, ◌≢◌, ◌⊎◌, inl, inr, ⊎_elim, ℕ, zero, suc, ◌+◌, ◌<◌, ◌≤◌, Bool, true, false, ◌||◌, cond, ltb, true≢false, List, [], ◌∷◌, length, get_or, set, refl, sym, ap, ◌∙◌, subst, arith}
 use Rattle.std.proofs.lemmas.List.{get_or_past}
 use mathlib.Core.Logic.{dite}
 use Rattle.std.proofs.lemmas.Bool.Decides.{nat_tests}
@@ -19,6 +19,7 @@ use Rattle.seq_words.specs.Knowledge.{unknown, known, heard}
 use Rattle.seq_words.specs.Rule.{Stands, Fits, Kept}
 use Rattle.seq_words.specs.Plays.{as_worker, spent, both_bits, both_known, both_lists, beside, settled, Settles}
 use Rattle.seq_words.proofs.Core.{same_list}
+use Rattle.seq_words.proofs.Alone.{known-alone}
 use Rattle.seq_words.proofs.Views.{mine, looks, M, not_true, there_inside}
 
 nothing_stands : (ws : List ℕ) (p : ℕ) → get_or ws (up_at p) 0 ≤ no_value → Stands ws p unknown
@@ -178,7 +179,10 @@ settles inst limit slots id me live s r _ at tiny =
     let next : M = (w, me.1) in
     let all : (p : ℕ) → p < length v.known → known w p ≡ both_known (known v p) (heard v p) = λ p h. both_at v.known v.heard p h in
     let len : length w.known ≡ length v.known = length-both v.known v.heard in
-    let past : (p : ℕ) → length v.known ≤ p → known w p ≡ unknown = λ p h. known_past w.known p (omega arith) in (
+    let past : (p : ℕ) → length v.known ≤ p → known w p ≡ unknown = λ p h. known_past w.known p (omega arith) in
+    let stands : (p : ℕ) → Stands ws p (known w p) = λ p. dite (dec_le (length v.known) p)
+    (λ h. subst (Stands ws p) (sym (past p h)) (nothing_stands ws p (r.small p)))
+    (λ h. subst (Stands ws p) (sym (all p (omega arith))) (stands_both ws p (known v p) (heard v p) (fit.stands p) (fit.hears p))) in (
       w,
       keeps,
       tt,
@@ -199,9 +203,7 @@ settles inst limit slots id me live s r _ at tiny =
           stored = d.stored;
         };
         terms = λ l. ((fit.terms live).0, (fit.terms live).1, len ∙ (fit.terms live).2);
-        stands = λ p. dite (dec_le (length v.known) p)
-            (λ h. subst (Stands ws p) (sym (past p h)) (nothing_stands ws p (r.small p)))
-            (λ h. subst (Stands ws p) (sym (all p (omega arith))) (stands_both ws p (known v p) (heard v p) (fit.stands p) (fit.hears p)));
+        stands = stands;
         hears = λ p. nothing_stands ws p (r.small p);
       } me.1,
       (
@@ -211,5 +213,6 @@ settles inst limit slots id me live s r _ at tiny =
           few_left = λ p. (fit.stands p).few;
           few_right = λ p. (fit.hears p).few;
         },
+        known-alone inst limit s r w.known 0 (λ q lt. let same : q ≡ 0 + q = omega arith in subst (λ n. Stands ws n (known w q)) same (stands q)),
       ),
     )

@@ -28,7 +28,7 @@ use Rattle.seq_words.specs.Rule.{Stands, Fits, Kept}
 use Rattle.seq_words.specs.Plays.{knows}
 use Rattle.seq_words.proofs.Core.{same_list, span_at, length-core, core_at}
 use Rattle.seq_words.proofs.Events.{row-among, row-right}
-use Rattle.seq_words.proofs.Licence.{IsBettered, AreBettered}
+use Rattle.seq_words.specs.Laws.{IsBettered, AreBettered}
 use Rattle.seq_words.proofs.Later.{Later, stands_later, drafts_later, later_same}
 
 -- what is known of a place after a change at one place
@@ -51,7 +51,7 @@ scribe_live r n e z = let f : Scribe n ≡ Spent = sym e ∙ z in cc
 is_eight : (n : ℕ) → eqb n 8 ≡ true → n ≡ 8
 is_eight n h = grind (arith, nat_tests)
 
-whole_parts : (k : Known) → is_whole k ≡ true → (k.there ≡ true) × (length k.bits ≡ 8)
+pub whole_parts : (k : Known) → is_whole k ≡ true → (k.there ≡ true) × (length k.bits ≡ 8)
 whole_parts k e = both_true k.there (eqb (length k.bits) 8) (length k.bits) e (λ h. is_eight (length k.bits) h)
   where
     both_true : (a b : Bool) (n : ℕ) → (a && b) ≡ true → (b ≡ true → n ≡ 8) → (a ≡ true) × (n ≡ 8)
@@ -59,7 +59,7 @@ whole_parts k e = both_true k.there (eqb (length k.bits) 8) (length k.bits) e (�
     both_true false b n e f = absurd (true≢false (sym e))
 
 -- a known row is that of a place
-abbrev IsFrom : List Known → TheoryRow → Type 0
+abbrev pub IsFrom : List Known → TheoryRow → Type 0
 IsFrom ks x = (p : ℕ) × (p < length ks) × (is_whole (get_or ks p unknown) ≡ true) × (seen_row (get_or ks p unknown) ≡ x)
 
 from_cons : (k : Known) (ks : List Known) (rs : List TheoryRow) (b : Bool) → is_whole k ≡ b → ((x : TheoryRow) → IsRow x rs → IsFrom ks x) → (x : TheoryRow) → IsRow x (cond b (seen_row k ∷ rs) rs) → IsFrom (k ∷ ks) x
@@ -67,7 +67,7 @@ from_cons k ks rs true e f x (inl i) = (0, omega arith, e, i)
 from_cons k ks rs true e f x (inr i) = let g = f x i in (suc g.0, omega (arith, g.1), g.2, g.3)
 from_cons k ks rs false e f x i = let g = f x i in (suc g.0, omega (arith, g.1), g.2, g.3)
 
-known_row : (ks : List Known) (x : TheoryRow) → IsRow x (known_rows ks) → IsFrom ks x
+pub known_row : (ks : List Known) (x : TheoryRow) → IsRow x (known_rows ks) → IsFrom ks x
 known_row [] x i = absurd i
 known_row (k ∷ ks) x i = from_cons k ks (known_rows ks) (is_whole k) refl (known_row ks) x i
 

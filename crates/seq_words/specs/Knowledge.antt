@@ -2,7 +2,7 @@
 use Rattle.std.specs.Prelude.{◌≡◌, ℕ, ◌≤◌, Bool, true, false, cond, ◌&&◌, ◌==◌, List, [], ◌∷◌, length, slice_index_or}
 use Rattle.seq_theory.specs.Problem.{Problem}
 use Rattle.seq_theory.specs.Tree.{IsLeast}
-use Rattle.seq_theory.specs.Rows.{no_value, most_low, least_up}
+use Rattle.seq_theory.specs.Rows.{no_value, most_low, least_up, groups_of, AreDistinct}
 use Rattle.seq_theory.specs.Rows.{Row as TheoryRow}
 use Rattle.seq_inst.specs.declared.instance.Instance.{Instance}
 use Rattle.seq_inst.specs.Valid.{problem_from}
@@ -62,6 +62,10 @@ seen_row k = record { group = classes_of k.bits; low = k.low; up = k.up }
 abbrev pub known_rows : List Known → List TheoryRow
 known_rows [] = []
 known_rows (k ∷ rest) = cond (is_whole k) (seen_row k ∷ known_rows rest) (known_rows rest)
+
+-- no two places are known with the same group
+abbrev pub AreAlone : View → Type 0
+AreAlone v = AreDistinct (groups_of (known_rows v.known))
 
 -- the view knows the place with its group, and its rows allow that this is raised, or capped, to a number
 pub record MayRaise (v : View) (place to : ℕ) : Type 0 where

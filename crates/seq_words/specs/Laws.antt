@@ -1,11 +1,12 @@
 -- What each kind of step does to the core of the words, from any state that meets the rule: the event that it stands for, which is
 -- allowed there, or nothing.
-use Rattle.std.specs.Prelude.{◌≡◌, ◌≢◌, ℕ, ◌+◌, ◌<◌, List, max, min, slice_index, slice_set}
+use Rattle.std.specs.Prelude.{◌≡◌, ◌≢◌, ℕ, ◌+◌, ◌<◌, ◌≤◌, List, max, min, slice_index, slice_set}
 use mathlib.Core.Option.{some}
 use lib.ListN.{get_elem?}
 use Rattle.atomic_table.specs.Table.{State}
 use Rattle.seq_theory.specs.Problem.{Problem}
-use Rattle.seq_theory.specs.Rows.{Event, enter, raise, cap, IsAllowed, after}
+use Rattle.seq_theory.specs.Rows.{no_value, Event, enter, raise, cap, IsAllowed, after, groups_of, IsRow, AreDistinct, most_low, least_up}
+use Rattle.seq_theory.specs.Rows.{Row as TheoryRow}
 use Rattle.seq_inst.specs.declared.instance.Instance.{Instance}
 use Rattle.seq_inst.specs.declared.outcome.Row.{Row}
 use Rattle.seq_inst.specs.Instances.{problem_of}
@@ -49,3 +50,23 @@ abbrev pub WritingLeaves : Type 0
 WritingLeaves = (inst : Instance) (limit : ℕ) (s : State (Unit {0}) View) (r : Kept inst limit s) (j : ℕ) (v : View) → Sees s j v
     → (place part x : ℕ) → v.role ≡ Scribe place → part < 8
     → core_of (slice_set s.words (bits_at place part) x) r.count ≡ core_of s.words r.count
+
+-- a row of some is among others with a low that is no lower and an up that is no higher
+pub record IsBettered (rows : List TheoryRow) (r : TheoryRow) : Type 0 where
+  pub by : TheoryRow
+  pub among : IsRow by rows
+  pub group : by.group ≡ r.group
+  pub low : r.low ≤ by.low
+  pub up : by.up ≤ r.up
+  pub most : r.up ≤ no_value
+
+abbrev pub AreBettered : List TheoryRow → List TheoryRow → Type 0
+AreBettered known rows = (r : TheoryRow) → IsRow r known → IsBettered rows r
+
+-- what some rows allow of a group, others allow too that know more
+pub record AllowsMore (p : Problem) (known rows : List TheoryRow) (group : List ℕ) : Type 0 where
+  pub low : most_low p known group ≤ most_low p rows group
+  pub up : least_up p rows group ≤ least_up p known group
+
+abbrev pub KnowingMoreAllows : Type 0
+KnowingMoreAllows = (p : Problem) (known rows : List TheoryRow) → AreDistinct (groups_of rows) → AreBettered known rows → (group : List ℕ) → AllowsMore p known rows group

@@ -6,7 +6,7 @@ use Rattle.seq_words.specs.declared.view.Known.{Known}
 use Rattle.seq_words.specs.declared.view.View.{View}
 use Rattle.seq_words.specs.declared.view.Role.TheVariants.{Worker, Scribe, Spent}
 use Rattle.seq_words.specs.Layout.{bits_at, state_at, low_at, up_at}
-use Rattle.seq_words.specs.Knowledge.{unknown, known, low_seen, up_seen, IsLowAt, IsUpAt}
+use Rattle.seq_words.specs.Knowledge.{unknown, known, low_seen, up_seen, IsLowAt, IsUpAt, AreAlone}
 
 -- the view with other knowledge of one place
 abbrev pub knows : ℕ → Known → View → View
@@ -121,5 +121,6 @@ pub record Agree (xs ys : List Known) : Type 0 where
   pub few_left : (place : ℕ) → length (slice_index_or xs place unknown).bits ≤ 8
   pub few_right : (place : ℕ) → length (slice_index_or ys place unknown).bits ≤ 8
 
+-- what was heard is put together with what was known, which agree; and no two places are then known with the same group
 abbrev pub Settles : At → Sat → ℕ → Sat → Type 0
-Settles st m found m' = (m' ≡ (settled m.0, m.1)) × Agree m.0.known m.0.heard
+Settles st m found m' = (m' ≡ (settled m.0, m.1)) × Agree m.0.known m.0.heard × AreAlone (settled m.0)

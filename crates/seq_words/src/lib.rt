@@ -29,8 +29,8 @@ mod words;
 
 pub use bounding::{lower_cap, raise};
 pub use closing::{Closed, close};
-pub use laws::steps_are_events;
-pub use learning::learn;
+pub use laws::{knowing_more_allows, steps_are_events};
+pub use learning::{learn, learn_at};
 pub use making::{Made, make_words};
 pub use publishing::publish;
 pub use seeing::see;

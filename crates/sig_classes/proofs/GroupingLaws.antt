@@ -10,6 +10,7 @@ use Rattle.std.proofs.lemmas.Bool.{cases_Bool, cases_lt, cases_eq, eqb-true, eqb
 use Rattle.std.proofs.lemmas.List.{length-map, length-set, length_push, get_or-set_same, get_or-set_other, get_or_append_left, get_or_past, get_or_push}
 use Rattle.std.proofs.lemmas.List.Elements.{filter-append}
 use Rattle.indexmap.specs.IndexSet.{insert_key}
+use Rattle.seq_theory.specs.PassageLaws.{GroupsHold}
 use Rattle.seq_theory.specs.Problem.{count_up, weight_of}
 use Rattle.seq_theory.specs.States.{System, same_row, is_first, first_alike, class_of, firsts, state_problem}
 use Rattle.seq_theory.proofs.StatesLaws.{count_up-last, begun, begun-yes, begun-no, begun-below, class_of-begun, first_alike-is_first}
@@ -225,10 +226,13 @@ module _ (matrix : Matrix) (valid : IsValid matrix) where
         (next (subst AreFourWords is_row four)))))
 
   -- once all states are in their classes
-  pub grouped-all : (m : ℕ) → m ≡ state_count matrix → (keys : List (List ℕ)) (classes : Classes) → Grouped matrix m keys classes.class_of.items classes.weights.items → AreClassesOf sys classes
-  grouped-all m e keys classes whole = record {
+  pub grouped-all : GroupsHold → (m : ℕ) → m ≡ state_count matrix → (keys : List (List ℕ)) (classes : Classes) → Grouped matrix m keys classes.class_of.items classes.weights.items → AreClassesOf sys classes
+  grouped-all law m e keys classes whole = record {
     groups = groups;
-    at = λ s lt. ap (λ l. get_or l s 0) groups ∙ get_or-by_number (class_of sys) sys.states s 0 lt;
+    at = at;
+    equal = λ a b la lb.
+        let stands = law sys a b la lb in
+        (λ same. stands.groups.0 (sym (at a la) ∙ same ∙ at b lb), λ rows. at a la ∙ stands.groups.1 rows ∙ sym (at b lb));
     states = ap length groups ∙ length-by_number (class_of sys) sys.states;
     as_many = whole.summed.count ∙ ap (begun sys) e;
     few = begun-le sys sys.states;
@@ -240,3 +244,6 @@ module _ (matrix : Matrix) (valid : IsValid matrix) where
     where
       groups : classes.class_of.items ≡ map (class_of sys) (count_up 0 sys.states)
       groups = whole.groups ∙ ap (λ n. map (class_of sys) (count_up 0 n)) e
+
+      at : (s : ℕ) → s < sys.states → get_or classes.class_of.items s 0 ≡ class_of sys s
+      at s lt = ap (λ l. get_or l s 0) groups ∙ get_or-by_number (class_of sys) sys.states s 0 lt

@@ -8,7 +8,7 @@ use Rattle.std.proofs.lemmas.Bool.{cases_Bool, ltb-true, ltb-false, eqb-false}
 use Rattle.std.proofs.lemmas.List.{length-map, get_or-map}
 use Rattle.seq_theory.specs.Problem.{Problem, count_up, weight_of}
 use Rattle.seq_theory.specs.States.{System, firsts, state_problem, IsOfClasses}
-use Rattle.seq_theory.proofs.PassageProofs.{classes_hold}
+use Rattle.seq_theory.specs.PassageLaws.{ClassesHold}
 use Rattle.seq_theory.proofs.StatesLaws.{class_of-there}
 use Rattle.seq_inst.specs.declared.group.Group.{Group}
 use Rattle.seq_inst.specs.Valid.{IsValid as IsValidInstance, problem_from}
@@ -64,9 +64,9 @@ module _ (matrix : Matrix) (valid : IsValid matrix) (classes : Classes) (are : A
         | inr some ↦ (let ne = eqb-false matrix.good 0 some in omega arith)
       ]
 
-  pub is_valid : length (firsts sys) ≤ 512 → IsValidInstance ws cs ps
-  is_valid small =
-      let stands = classes_hold sys (problem_from ws cs ps) of_classes in
+  pub is_valid : ClassesHold → length (firsts sys) ≤ 512 → IsValidInstance ws cs ps
+  is_valid law small =
+      let stands = law sys (problem_from ws cs ps) of_classes in
       let weighed = stands.weighed heavy in
       let n = many in
       let tests = as_many_costs in

@@ -6,6 +6,7 @@ ghost use Rattle.sig_matrix.specs.Valid.{IsValid};
 ghost use Rattle.sig_matrix.specs.Detection.{system_of};
 
 use indexmap::IndexSet;
+use seq_theory::groups_hold;
 use sig_matrix::Matrix;
 use std::alloc::{AllocError, Global};
 
@@ -61,6 +62,7 @@ pub fn classes_of(alloc: Global, matrix: &Matrix) -> Result<Classes, AllocError>
     requires { IsValid matrix.now }
     ensures { IfOk result (λ c. AreClassesOf (system_of matrix.now) c) }
 {
+    groups_hold();
     let mut seen = IndexSet::new(alloc);
     let mut classes = Classes {
         class_of: Vec::with_capacity(alloc, matrix.states() as usize)?,

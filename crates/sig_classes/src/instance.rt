@@ -12,6 +12,7 @@ ghost use Rattle.sig_classes.specs.Passing.{ArePassing, AreEightWords, AddsClass
 
 use crate::classes::Classes;
 use seq_inst::{Group, Instance};
+use seq_theory::classes_hold;
 use sig_lines::TestLabel;
 use sig_matrix::{Matrix, has_test};
 use sig_types::{Code, Counted, ModelFault, Place, Refusal};
@@ -59,6 +60,7 @@ fn instance_of_few(
     ensures instance { IfOk result (λ inst. IsOfClasses (system_of matrix.now) (problem_of inst)) }
     ensures problem { IfOk result (λ inst. problem_of inst ≡ problem_of_classes (system_of matrix.now)) }
 {
+    classes_hold();
     let weights = Vec::from_slice(alloc, classes.weights.as_slice())?;
     let costs = costs_of(alloc, matrix.tests.as_slice())?;
     let passes = passes_of(alloc, matrix, classes)?;

@@ -2,7 +2,6 @@
 
 ghost use Rattle.std.specs.Prelude.{◌≡◌, ℕ, ◌<◌, ◌≤◌, ◌↔◌, ◌||◌, true, filter, length, IfOk, IfSome};
 ghost use Rattle.seq_theory.specs.Problem.{count_up};
-ghost use Rattle.sig_flat.specs.Valid.{IsValid};
 ghost use Rattle.sig_reach.specs.Marks.{is_marked};
 ghost use Rattle.sig_figures.specs.Loops.{IsLooped, IsLoopedBelow, AreLooped};
 
@@ -25,7 +24,6 @@ fn add_marks(nodes: &[bool], marks: &mut [bool])
 
 /// For each node whether it is on a loop in some mode.
 fn looped_in_any(alloc: Global, flat: &Flat) -> Result<Vec<bool>, AllocError>
-    requires { IsValid flat.now }
     ensures long { IfOk result (λ marks. length marks.items ≡ length flat.now.nodes) }
     ensures loops { IfOk result (λ marks. (v : ℕ) → v < length flat.now.nodes → (is_marked marks.items v ≡ true) ↔ IsLoopedBelow flat.now (length flat.now.modes) v) }
 {
@@ -53,7 +51,6 @@ fn marked(alloc: Global, marks: &[bool]) -> Result<List<u32>, AllocError>
 
 /// For each node whether it is on a loop in the mode, or in some mode where none is named.
 fn loop_marks(alloc: Global, flat: &Flat, mode: Option<u32>) -> Result<Vec<bool>, AllocError>
-    requires valid { IsValid flat.now }
     requires mode { IfSome mode (λ m. m < length flat.now.modes) }
     ensures long { IfOk result (λ marks. length marks.items ≡ length flat.now.nodes) }
     ensures loops { IfOk result (λ marks. (v : ℕ) → v < length flat.now.nodes → (is_marked marks.items v ≡ true) ↔ IsLooped flat.now mode v) }
@@ -66,7 +63,6 @@ fn loop_marks(alloc: Global, flat: &Flat, mode: Option<u32>) -> Result<Vec<bool>
 
 /// The nodes on a loop in the mode, or in any where none is named. It costs a look at each node and link for each mode.
 pub fn looped_nodes(alloc: Global, flat: &Flat, mode: Option<u32>) -> Result<List<u32>, AllocError>
-    requires valid { IsValid flat.now }
     requires mode { IfSome mode (λ m. m < length flat.now.modes) }
     ensures { IfOk result (λ nodes. AreLooped flat.now mode nodes) }
 {

@@ -1,7 +1,6 @@
 //! The figures of a model, put together.
 
 ghost use Rattle.std.specs.Prelude.{◌<◌, length, IfOk, IfSome};
-ghost use Rattle.sig_flat.specs.Valid.{IsValid as IsValidFlat};
 ghost use Rattle.sig_matrix.specs.Detection.{IsMatrixOf, system_of};
 ghost use Rattle.sig_matrix.specs.Valid.{IsValid};
 ghost use Rattle.sig_classes.specs.Classes.{AreClassesOf};
@@ -65,7 +64,6 @@ pub fn figures_of(
     classes: &Classes,
     mode: Option<u32>,
 ) -> Result<Figures, AllocError>
-    requires flat { IsValidFlat flat.now }
     requires mode { IfSome mode (λ m. m < length flat.now.modes) }
     requires matrix { IsMatrixOf flat.now mode matrix.now }
     requires valid { IsValid matrix.now }

@@ -6,7 +6,6 @@ use Rattle.std.proofs.lemmas.Bool.{cases_Bool, eqb-true}
 use Rattle.std.proofs.lemmas.List.Elements.{All-get_or, Contains-get_or}
 use Rattle.sig_flat.specs.declared.flat.Flat.{Flat}
 use Rattle.sig_flat.specs.declared.flat.FlatTest.{FlatTest}
-use Rattle.sig_flat.specs.Valid.{IsValid as IsValidFlat}
 use Rattle.sig_matrix.specs.declared.matrix.Matrix.{Matrix}
 use Rattle.sig_matrix.specs.declared.matrix.FaultRow.{FaultRow}
 use Rattle.sig_matrix.specs.Detection.{AreFourWords, Detects, IsMatrixOf, IsRowOf, IsLabelOf, is_taken, taken, test_at, fault_at, no_row, no_label, no_fault, no_test, in_row, detects, state_count}
@@ -69,24 +68,24 @@ matrix-from_parts flat mode matrix tests rows is good faults same labels h four 
     long : length tests ≡ length matrix.tests
     long = AllZip-long IsLabelOf tests matrix.tests labels
 
-pub valid-from_matrix : (flat : Flat) (mode : Option ℕ) (matrix : Matrix) → IsValidFlat flat → IsMatrixOf flat mode matrix → IsValid matrix
-valid-from_matrix flat mode matrix valid h = record {
+pub valid-from_matrix : (flat : Flat) (mode : Option ℕ) (matrix : Matrix) → IsMatrixOf flat mode matrix → IsValid matrix
+valid-from_matrix flat mode matrix h = record {
   some = some;
   many = many;
-  good = subst (λ n. n ≤ 1000000) (sym h.good) valid.good;
-  faults = (let few = valid.faults in let many = long_faults in omega arith);
-  tests = (let many = long_tests in let all = valid.tests in let few = taken-few (is_taken mode) flat.tests in omega arith);
+  good = subst (λ n. n ≤ 1000000) (sym h.good) flat.valid.good;
+  faults = (let few = flat.valid.faults in let many = long_faults in omega arith);
+  tests = (let many = long_tests in let all = flat.valid.tests in let few = taken-few (is_taken mode) flat.tests in omega arith);
   weights = λ f lf.
       let many = long_faults in
       let lt : f < length flat.faults = omega arith in
       let r = AllZip-at IsRowOf flat.faults matrix.faults f no_fault no_row h.faults lt in
-      let p = valid.fault_parts (fault_at flat f) (Contains-get_or flat.faults f no_fault lt) in
+      let p = flat.valid.fault_parts (fault_at flat f) (Contains-get_or flat.faults f no_fault lt) in
       subst (λ w. (1 ≤ w) × (w ≤ 1000000)) (sym r.weight) (p.1, p.2);
   costs = λ t lt.
       let many = long_tests in
       let here : t < length (taken mode flat.tests) = omega arith in
       let r = AllZip-at IsLabelOf (taken mode flat.tests) matrix.tests t no_test no_label h.tests here in
-      let p = valid.test_points (test_at (taken mode flat.tests) t) (taken-there (is_taken mode) flat.tests t no_test here) in
+      let p = flat.valid.test_points (test_at (taken mode flat.tests) t) (taken-there (is_taken mode) flat.tests t no_test here) in
       subst (λ k. (1 ≤ k) × (k ≤ 1000000)) (sym r.cost) (p.2, p.3);
   nothing_else = λ f t lf le lt. let many = long_faults in h.nothing_else f t (omega arith) le lt;
 }
@@ -99,7 +98,7 @@ valid-from_matrix flat mode matrix valid h = record {
 
     many : state_count matrix ≤ 4097
     many =
-        let faults = valid.faults in
+        let faults = flat.valid.faults in
         let as_many = long_faults in
         elim (cases_Bool (nat_eq matrix.good 0)) [ inl none ↦ rw none (omega arith) | inr some_good ↦ rw some_good (omega arith) ]
 
@@ -110,7 +109,7 @@ valid-from_matrix flat mode matrix valid h = record {
           | inl y ↦
               (let none = eqb-true matrix.good 0 y in
               let e = h.good in
-              let some_state = valid.state in
+              let some_state = flat.valid.state in
               omega arith)
           | inr n ↦ (let e : state_count matrix ≡ 1 + length matrix.faults = ap (λ b. cond b 0 1 + length matrix.faults) n in omega arith)
         ]

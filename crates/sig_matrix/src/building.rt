@@ -8,7 +8,6 @@
 ghost use Rattle.std.specs.Prelude.{◌≡◌, ◌≢◌, ℕ, ◌+◌, ◌<◌, ◌≤◌, true, length, map, replicate, All, IfOk, IfSome};
 ghost use Rattle.std.specs.Bool.{OnFalse};
 ghost use Rattle.std.specs.List.{AllZip};
-ghost use Rattle.sig_flat.specs.Valid.{IsValid as IsValidFlat};
 ghost use Rattle.sig_flat.specs.declared.flat.FlatTest.{FlatTest};
 ghost use Rattle.sig_reach.specs.Marks.{is_marked};
 ghost use Rattle.sig_matrix.specs.declared.matrix.FaultRow.{FaultRow};
@@ -37,7 +36,6 @@ fn is_taken(test: &FlatTest, mode: Option<u32>) -> bool
 
 /// The numbers of the tests that are taken, in order.
 fn taken_numbers(alloc: Global, flat: &Flat, mode: Option<u32>) -> Result<Vec<u32>, AllocError>
-    requires { IsValidFlat flat.now }
     ensures there { IfOk result (λ numbers. All (λ n. n < length flat.now.tests) numbers.items) }
     ensures tests { IfOk result (λ numbers. map (test_at flat.now.tests) numbers.items ≡ taken mode flat.now.tests) }
 {
@@ -71,7 +69,6 @@ fn labels_of(alloc: Global, flat: &Flat, numbers: &[u32]) -> Result<List<TestLab
 
 /// Sets the test's bit in the row of each fault that it detects.
 fn add_test(reach: &ReachTo, flat: &Flat, test: &FlatTest, column: u32, rows: &mut [[u64; 4]])
-    requires valid { IsValidFlat flat.now }
     requires reach { reach.now.flat ≡ flat.now }
     requires mode { reach.now.mode ≡ test.now.mode }
     requires point { is_marked reach.now.wanted test.now.node ≡ true }
@@ -89,7 +86,6 @@ fn add_test(reach: &ReachTo, flat: &Flat, test: &FlatTest, column: u32, rows: &m
 
 /// Sets the bits of the tests of one mode.
 fn add_mode(reach: &ReachTo, flat: &Flat, numbers: &[u32], mode: u32, rows: &mut [[u64; 4]])
-    requires valid { IsValidFlat flat.now }
     requires reach { reach.now.flat ≡ flat.now }
     requires mode { reach.now.mode ≡ mode }
     requires there { All (λ n. n < length flat.now.tests) numbers.now }
@@ -128,7 +124,6 @@ fn wanted_nodes(
     numbers: &[u32],
     mode: u32,
 ) -> Result<Vec<bool>, AllocError>
-    requires valid { IsValidFlat flat.now }
     requires there { All (λ n. n < length flat.now.tests) numbers.now }
     ensures long { IfOk result (λ wanted. length wanted.items ≡ length flat.now.nodes) }
     ensures wanted { IfOk result (λ wanted. All (IsWanted flat.now mode wanted.items) numbers.now) }
@@ -154,7 +149,6 @@ fn empty_rows(alloc: Global, count: usize) -> Result<Vec<[u64; 4]>, AllocError>
 
 /// For each fault its row over the tests with these numbers.
 fn rows_of(alloc: Global, flat: &Flat, numbers: &[u32]) -> Result<Vec<[u64; 4]>, AllocError>
-    requires valid { IsValidFlat flat.now }
     requires there { All (λ n. n < length flat.now.tests) numbers.now }
     requires few { length numbers.now ≤ 256 }
     ensures { IfOk result (λ rows. AreRows flat.now (map (test_at flat.now.tests) numbers.now) (λ t. true) rows.items) }
@@ -203,7 +197,6 @@ fn faults_with(alloc: Global, flat: &Flat, rows: &[[u64; 4]]) -> Result<List<Fau
 /// order. It costs two passes for each test, a look at each link for each mode in use, and a question for each fault and
 /// test.
 pub fn matrix_of(alloc: Global, flat: &Flat, mode: Option<u32>) -> Result<Matrix, AllocError>
-    requires valid { IsValidFlat flat.now }
     requires mode { IfSome mode (λ m. m < length flat.now.modes) }
     ensures matrix { IfOk result (λ matrix. IsMatrixOf flat.now mode matrix) }
     ensures valid { IfOk result IsValid }

@@ -15,7 +15,7 @@ mod text;
 pub use building::matrix_of;
 pub use laws::one_matrix;
 pub use matrix::{FaultRow, Matrix};
-pub use row::has_test;
+pub use row::{has_test, with_test};
 pub use text::matrix_text;
 
 #[cfg(test)]

@@ -3,7 +3,6 @@
 
 ghost use Rattle.std.specs.Prelude.{◌≡◌, ℕ, ◌<◌, ◌↔◌, true, length, IfOk, IsTrue, Some};
 ghost use Rattle.sig_types.specs.Sets.{has_bit};
-ghost use Rattle.sig_flat.specs.Valid.{IsValid};
 ghost use Rattle.sig_reach.specs.Marks.{is_marked};
 ghost use Rattle.sig_reach.specs.Columns.{IsColumn};
 ghost use Rattle.sig_reach.specs.Paths.{HasSignalPath, HasFreePath};
@@ -29,7 +28,6 @@ pub struct ReachTo {
 
 impl Model for ReachTo {
     ghost use Rattle.std.specs.Prelude.{ℕ, ◌≡◌, true, length};
-    ghost use Rattle.sig_flat.specs.Valid.{IsValid};
     ghost use Rattle.sig_reach.specs.Graphs.{Targets};
     ghost use Rattle.sig_reach.specs.Marks.{is_marked};
     ghost use Rattle.sig_reach.specs.Columns.{HasColumn};
@@ -38,7 +36,7 @@ impl Model for ReachTo {
 
     ghost view = { λ r. record { flat = r.of.value; mode = r.mode; wanted = r.wanted.items } };
 
-    ghost invariant = { λ r. IsValid r.of.value × (length r.columns.items ≡ length r.of.value.nodes) × (length r.wanted.items ≡ length r.of.value.nodes) × ((v : ℕ) → is_marked r.wanted.items v ≡ true → HasColumn r.of.value r.mode r.columns.items v) };
+    ghost invariant = { λ r. (length r.columns.items ≡ length r.of.value.nodes) × (length r.wanted.items ≡ length r.of.value.nodes) × ((v : ℕ) → is_marked r.wanted.items v ≡ true → HasColumn r.of.value r.mode r.columns.items v) };
 }
 
 /// The column of a node that is wanted.
@@ -68,7 +66,6 @@ pub fn reaches_to(
     wanted: Vec<bool>,
 ) -> Result<ReachTo, AllocError>
     requires mode { mode < length flat.now.modes }
-    requires valid { IsValid flat.now }
     requires long { length wanted.items ≡ length flat.now.nodes }
     ensures { IfOk result (λ reach. (reach.flat ≡ flat.now) × (reach.mode ≡ mode) × (reach.wanted ≡ wanted.items)) }
 {

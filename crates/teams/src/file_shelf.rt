@@ -4,11 +4,13 @@
 //! from the start opens the file anew. A file that is read from its start to its end, piece after piece, need not be one that can
 //! be read from a place on: a pipe serves. Only a name that the system doesn't find is a miss. A folder, a file that may not be
 //! read, and a path that goes through a file are read faults.
+//!
+//! The memory for the name of the file that is open is taken when the shelf is made, so that want of memory is no fault of a read.
 
 ghost use Rattle.std.specs.Prelude.{None, ◌≡◌, ◌≤◌, length, IfOk};
 
 use sig_edge::{Shelf, ShelfFault};
-use std::alloc::Global;
+use std::alloc::{AllocError, Global};
 use std::io::{Read, Seek, SeekFrom};
 use std::rt::Files;
 use std::{fs, io};
@@ -16,34 +18,34 @@ use std::{fs, io};
 /// A file that is open, and the place of its next byte.
 #[derive(Drop)]
 struct Reading<F: Drop> {
-    name: String,
     file: F,
     at: u64,
 }
 
-/// The files of the system.
+/// The files of the system. `name` is that of the file that is open.
 #[derive(Drop)]
 pub struct FileShelf<'a, R: Files> {
     rt: &'a R,
-    alloc: Global,
+    name: String,
     open: Option<Reading<R::File>>,
     faults: u64,
     misses: u64,
 }
 
 impl<'a, R: Files> FileShelf<'a, R> {
-    /// A shelf that had no fault and no miss. It takes memory later, for the name of the file that is open.
-    pub fn new(rt: &'a R, alloc: Global) -> FileShelf<'a, R>
-        ensures faults { result.faults ≡ 0 }
-        ensures misses { result.misses ≡ 0 }
+    /// A shelf that had no fault and no miss. It takes memory for a name of `longest` bytes, and reading a file whose name is no
+    /// longer takes none.
+    pub fn new(rt: &'a R, alloc: Global, longest: usize) -> Result<FileShelf<'a, R>, AllocError>
+        ensures faults { IfOk result (λ shelf. shelf.faults ≡ 0) }
+        ensures misses { IfOk result (λ shelf. shelf.misses ≡ 0) }
     {
-        FileShelf {
+        Ok(FileShelf {
             rt,
-            alloc,
+            name: String::with_capacity(alloc, longest)?,
             open: None,
             faults: 0,
             misses: 0,
-        }
+        })
     }
 
     /// Reads once from byte `at` of the file on. What was open goes on where it stands, if it is what is asked for.
@@ -53,8 +55,8 @@ impl<'a, R: Files> FileShelf<'a, R> {
         ensures misses { self.new.misses ≡ self.old.misses }
     {
         let mut reading = match self.open.take() {
-            Some(open) if open.at == at && at > 0 && open.name.as_str() == name => open,
-            _ => opened(self.rt, self.alloc, name, at)?,
+            Some(open) if open.at == at && at > 0 && self.name.as_str() == name => open,
+            _ => self.opened(name, at)?,
         };
         let n = reading.file.read(into)?;
         if n > 0 {
@@ -62,6 +64,20 @@ impl<'a, R: Files> FileShelf<'a, R> {
             self.open = Some(reading);
         }
         Ok(n)
+    }
+
+    /// The file, opened anew, with byte `at` as its next.
+    fn opened(&mut self, name: &str, at: u64) -> io::Result<Reading<R::File>>
+        ensures faults { self.new.faults ≡ self.old.faults }
+        ensures misses { self.new.misses ≡ self.old.misses }
+    {
+        let mut file = fs::open(self.rt, name)?;
+        if at > 0 {
+            file.seek(SeekFrom::Start(at))?;
+        }
+        self.name.clear();
+        self.name.push_str(name)?;
+        Ok(Reading { file, at })
     }
 }
 
@@ -85,14 +101,4 @@ impl<'a, R: Files> Shelf for FileShelf<'a, R> {
             }
         }
     }
-}
-
-/// The file, opened anew, with byte `at` as its next.
-fn opened<R: Files>(rt: &R, alloc: Global, name: &str, at: u64) -> io::Result<Reading<R::File>> {
-    let mut file = fs::open(rt, name)?;
-    if at > 0 {
-        file.seek(SeekFrom::Start(at))?;
-    }
-    let name = String::from_str(alloc, name)?;
-    Ok(Reading { name, file, at })
 }

@@ -26,7 +26,10 @@ fn status_of(rt: &HostRuntime) -> Status {
         Err(WordsFault::NotText) => return Status::Usage,
         Err(WordsFault::OutOfMemory) => return Status::NoMemory,
     };
-    let mut shelf = FileShelf::new(rt, rt.alloc());
+    let longest = words.iter().map(|word| word.len()).max().unwrap_or(0);
+    let Ok(mut shelf) = FileShelf::new(rt, rt.alloc(), longest) else {
+        return Status::NoMemory;
+    };
     let mut sink = OutSink::new(rt.stdout());
     run(rt.alloc(), words.as_slice(), &mut shelf, &mut sink)
 }

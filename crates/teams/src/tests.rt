@@ -43,7 +43,7 @@ fn reads_a_file_of_the_system(rt: HostRuntime) -> Result<(), Fail> {
     let path = format!(in rt.alloc(); "/tmp/teams-shelf-{}", process::id(rt.process()))?;
     fs::write(&rt, path.as_str(), "version = 1\n")?;
     let through = format!(in rt.alloc(); "{path}/model.toml")?;
-    let mut shelf = FileShelf::new(&rt, rt.alloc());
+    let mut shelf = FileShelf::new(&rt, rt.alloc(), through.len())?;
     let mut into = [0u8; 8];
     let start = shelf.read_at(path.as_str(), 0, &mut into);
     let is_start = into.as_slice() == b"version ".as_slice();
@@ -69,7 +69,7 @@ fn reads_one_version_of_a_file(rt: HostRuntime) -> Result<(), Fail> {
     let other = format!(in rt.alloc(); "{path}-new")?;
     fs::write(&rt, path.as_str(), "version = 1\n")?;
     fs::write(&rt, other.as_str(), "VERSION = 22\n")?;
-    let mut shelf = FileShelf::new(&rt, rt.alloc());
+    let mut shelf = FileShelf::new(&rt, rt.alloc(), path.len())?;
     let mut into = [0u8; 8];
     let start = shelf.read_at(path.as_str(), 0, &mut into);
     fs::rename(&rt, other.as_str(), path.as_str())?;

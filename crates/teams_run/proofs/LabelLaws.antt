@@ -6,6 +6,7 @@ use Rattle.std.proofs.lemmas.List.Sums.{sum_by-cons}
 use Rattle.std.proofs.lemmas.List.Elements.{All-nil, All-cons}
 use Rattle.seq_theory.specs.Problem.{Problem, count_up, weight_of}
 use Rattle.seq_theory.specs.States.{class_of, firsts, is_first, state_problem, IsOfClasses}
+use Rattle.seq_theory.proofs.BelowLaws.{length-count_up}
 use Rattle.seq_theory.proofs.StatesLaws.{class_of-there}
 use Rattle.seq_theory.proofs.GroupLaws.{length-two_filters}
 use Rattle.sig_lines.specs.declared.labels.StateLabel.{StateLabel}
@@ -22,10 +23,6 @@ weights-in m k (x ∷ xs) = elim (cases_Bool (nat_eq (class_of (system_of m) x) 
   | inl there ↦ rw there (sum_by-cons (λ (s : StateLabel). s.weight) (state_label m x) (filter (is_of k) (map (state_label m) xs)) ∙ ap (λ n. state_weight m x + n) (weights-in m k xs))
   | inr other ↦ rw other (weights-in m k xs)
 ]
-
-pub length-count_up : (from n : ℕ) → length (count_up from n) ≡ n
-length-count_up from zero = refl
-length-count_up from (suc n) = ap suc (length-count_up (suc from) n)
 
 -- a property of each number of a range is one of each item made from it
 pub All-made : {X : Type 0} (P : X → Type 0) (f : ℕ → X) (from n : ℕ) → ((k : ℕ) → from ≤ k → k < from + n → P (f k)) → All P (map f (count_up from n))

@@ -7,3 +7,10 @@ pub mod UnfitLaws
 pub mod StandLaws
 pub mod DueLaws
 pub mod PrintableLaws
+pub mod ProblemLaws
+pub mod OneSystem
+pub mod OneFigures
+pub mod OneJudgement
+pub mod OneAnswer
+pub mod OneAccepted
+pub mod BadLaws

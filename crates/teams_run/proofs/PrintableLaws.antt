@@ -32,7 +32,9 @@ use Rattle.seq_cert.specs.LineForms.{is_mode}
 use Rattle.seq_shown.specs.Laws.{ArePrintable}
 use Rattle.teams_run.specs.Accepted.{IsMatrixOfText, model_of, mode_number, mode_refusals, text_refusals}
 use Rattle.teams_run.specs.Texts.{mode_word}
-use Rattle.teams_run.proofs.LabelLaws.{All-made, length-count_up}
+use Rattle.seq_theory.proofs.BelowLaws.{length-count_up}
+use Rattle.teams_run.proofs.LabelLaws.{All-made}
+use Rattle.teams_run.proofs.RefusalLaws.{rest-none}
 
 abbrev IsName : List ℕ → Type 0
 IsName text = is_name text ≡ true
@@ -49,11 +51,6 @@ All-partners P Q R h [] [] zip all = All-nil Q
 All-partners P Q R h [] (y ∷ ys) zip all = absurd zip
 All-partners P Q R h (x ∷ xs) [] zip all = absurd zip
 All-partners P Q R h (x ∷ xs) (y ∷ ys) zip all = All-cons Q y ys (h x y zip.0 (All-head P x xs all)) (All-partners P Q R h xs ys zip.1 (All-tail P x xs all))
-
--- a list that is empty where it stands behind another one
-rest-none : {X : Type 0} (xs ys : List X) → xs ++ ys ≡ [] → ys ≡ []
-rest-none [] ys e = e
-rest-none (x ∷ xs) ys e = absurd (let no : ⊥ = cc in no)
 
 kept-rule : (b : Bool) (code : Code) (place : Place) → breach_if (not b) code place ≡ [] → b ≡ true
 kept-rule true code place e = refl
@@ -79,7 +76,8 @@ state-label matrix s labels there = elim (cases_lt s (before_faults matrix)) [
   | inr past ↦ rw (le-ltb s (before_faults matrix) past) (labels (s - before_faults matrix) no_row (omega (arith, there, past)))
 ]
 
-few-before : (matrix : Matrix) → before_faults matrix ≤ 1
+-- at most one state comes before the faults
+pub few-before : (matrix : Matrix) → before_faults matrix ≤ 1
 few-before matrix = elim (cases_Bool (nat_eq matrix.good 0)) [
   | inl none ↦ rw none (omega arith)
   | inr some ↦ rw some (omega arith)

@@ -1,5 +1,5 @@
 -- The first of several lists of refusals, one after the other; and which layer a text is refused by.
-use Rattle.std.proofs.Common.{◌≡◌, ℕ, List, [], ◌∷◌, ◌++◌, sym, subst}
+use Rattle.std.proofs.Common.{◌≡◌, ℕ, List, [], ◌∷◌, ◌++◌, refl, sym, subst}
 use Rattle.std.specs.Prelude.{Option}
 use Rattle.std.specs.Option.{option_to_list}
 use Rattle.std.proofs.lemmas.Option.{none-some}
@@ -12,6 +12,15 @@ use Rattle.sig_types.specs.Refused.{TellsFirst}
 use Rattle.sig_text.specs.Texts.{text_breaches, text_model}
 use Rattle.sig_flat.specs.Counts.{flat_refusal}
 use Rattle.teams_run.specs.Accepted.{model_of, mode_refusals, refusals, text_refusals}
+
+-- lists that are nothing one after the other are nothing each
+pub front-none : {X : Type 0} (xs ys : List X) → xs ++ ys ≡ [] → xs ≡ []
+front-none [] ys e = refl
+front-none (x ∷ xs) ys e = absurd (let no : ⊥ = cc in no)
+
+pub rest-none : {X : Type 0} (xs ys : List X) → xs ++ ys ≡ [] → ys ≡ []
+rest-none [] ys e = e
+rest-none (x ∷ xs) ys e = absurd (let no : ⊥ = cc in no)
 
 -- the first of the first list is the first of all
 tells_left : (xs ys : List Refusal) (f : ModelFault) → TellsFirst xs f → TellsFirst (xs ++ ys) f

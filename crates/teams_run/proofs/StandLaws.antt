@@ -4,9 +4,7 @@ use Rattle.seq_theory.specs.Problem.{Problem, AreTold, IsWeighed, all_classes}
 use Rattle.seq_theory.specs.Laws.{HasLeast}
 use Rattle.seq_theory.specs.PassageLaws.{PassageStands}
 use Rattle.seq_theory.specs.States.{System}
-use Rattle.seq_inst.specs.declared.instance.Instance.{Instance}
 use Rattle.seq_inst.specs.declared.outcome.Outcome.{Outcome}
-use Rattle.seq_inst.specs.Instances.{problem_of}
 use Rattle.seq_inst.specs.Trees.{tree_of}
 use Rattle.seq_theory.proofs.BelowLaws.{within-all}
 use Rattle.seq_finish.specs.Outcomes.{IsRightOutcome}
@@ -15,9 +13,6 @@ use Rattle.seq_cert.specs.declared.report.Report.{Report}
 use Rattle.seq_check.specs.Shown.{Shows}
 use Rattle.teams_run.specs.Solved.{Stands}
 use Rattle.teams_run.specs.Judged.{ShowsStates}
-
-pub weighed : (inst : Instance) → IsWeighed (problem_of inst)
-weighed inst = record { positive = λ c lt. inst.valid.positive c lt; goals = λ c lt. lt }
 
 pub stands : (sys : System) (p : Problem) (limit : ℕ) (o : Outcome) → PassageStands sys p → HasLeast → OutcomesHold → IsWeighed p → AreTold p → IsRightOutcome p limit o → Stands sys o
 stands sys p limit o passage has_least outcomes is_weighed told right =

@@ -1,8 +1,8 @@
 -- What the check of a certificate says of a system.
-use Rattle.std.specs.Prelude.{◌≡◌, ⊤, ◌⊎◌, ℕ, ◌≤◌, List, [], ◌∷◌, length, codes, decimal, Some, Ok, Err}
+use Rattle.std.specs.Prelude.{◌≡◌, ⊤, ◌⊎◌, ℕ, ◌≤◌, List, [], ◌∷◌, length, codes, decimal, Some}
 use Rattle.seq_theory.specs.Problem.{Problem, all_classes}
 use Rattle.seq_theory.specs.Tree.{Tree}
-use Rattle.seq_theory.specs.States.{System, firsts, IsOfClasses}
+use Rattle.seq_theory.specs.States.{System, firsts, IsOfClasses, problem_of_classes}
 use Rattle.seq_inst.specs.declared.outcome.Verdict.TheVariants.{Optimal}
 use Rattle.seq_inst.specs.Verdicts.{verdict_word}
 use Rattle.sig_lines.specs.Pieces.{Words, bytes_of}
@@ -15,7 +15,7 @@ use Rattle.seq_cert.specs.declared.fault.ReportFault.TheVariants.{Bad, OutOfMemo
 use Rattle.seq_cert.specs.BadCodes.{bad_word}
 use Rattle.seq_cert.specs.Text.{report_bytes}
 use Rattle.seq_cert.specs.ReportForm.{IsReport}
-use Rattle.seq_cert.specs.Reading.{report_at}
+use Rattle.seq_cert.specs.Places.{IsFirstBadLine}
 use Rattle.seq_cert.specs.TreeLines.{tree_lines}
 use Rattle.seq_check.specs.Looks.{first_bad}
 use Rattle.seq_check.specs.Lines.{looks}
@@ -28,8 +28,8 @@ use Rattle.teams_run.specs.Solved.{IsRightFor, IsLeastFor, state_cost}
 -- system what isn't so, with the lowest code that it breaks
 abbrev pub IsFirstBad : Problem → Labels → List ℕ → BadLine → Type 0
 IsFirstBad p labels cert bad =
-    ((bad.code ≡ C01) × (report_at cert ≡ Err bad.line))
-    ⊎ ((report : Report) × (report_at cert ≡ Ok report) × (first_bad (looks p labels report) ≡ Some bad))
+    ((bad.code ≡ C01) × IsFirstBadLine cert bad.line)
+    ⊎ ((report : Report) × IsReport report × (cert ≡ report_bytes report) × (first_bad (looks p labels report) ≡ Some bad))
 
 -- why a certificate is not accepted; want of memory may come at any time
 abbrev pub TellsBad : Problem → Labels → List ℕ → ReportFault → Type 0
@@ -70,24 +70,23 @@ rejected_words bad = codes "rejected" ∷ codes "line" ∷ decimal bad.line ∷ 
 abbrev pub rejected_line : BadLine → List ℕ
 rejected_line bad = bytes_of (rejected_words bad ∷ [])
 
--- the certificate is accepted for the system, which has at most 512 ambiguity groups, and shows a right strategy, its cost,
--- and a low that no right strategy undercuts
+-- the certificate is accepted for the one problem of the system's ambiguity groups, of which there are at most 512, and shows
+-- a right strategy, its cost, and a low that no right strategy undercuts
 pub record IsAccepted (sys : System) (labels : Labels) (cert text : List ℕ) : Type 0 where
   pub few : length (firsts sys) ≤ 512
-  pub problem : Problem
-  pub classes : IsOfClasses sys problem
+  pub classes : IsOfClasses sys (problem_of_classes sys)
   pub report : Report
-  pub good : IsGood problem labels cert report
-  pub shows : ShowsStates sys problem report
+  pub good : IsGood (problem_of_classes sys) labels cert report
+  pub shows : ShowsStates sys (problem_of_classes sys) report
   pub line : text ≡ accepted_line report
 
--- the system has at most 512 ambiguity groups, and the certificate has a first bad line, which the text names
+-- the system has at most 512 ambiguity groups, and the certificate has a first bad line for their one problem, which the
+-- text names
 pub record IsRejected (sys : System) (labels : Labels) (cert text : List ℕ) : Type 0 where
   pub few : length (firsts sys) ≤ 512
-  pub problem : Problem
-  pub classes : IsOfClasses sys problem
+  pub classes : IsOfClasses sys (problem_of_classes sys)
   pub bad : BadLine
-  pub first : IsFirstBad problem labels cert bad
+  pub first : IsFirstBad (problem_of_classes sys) labels cert bad
   pub line : text ≡ rejected_line bad
 
 abbrev pub IsJudgement : System → Labels → List ℕ → Status → List ℕ → Type 0

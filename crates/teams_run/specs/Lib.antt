@@ -6,4 +6,5 @@ pub mod Ready
 pub mod Judged
 pub mod Samples
 pub mod Texts
+pub mod Exact
 pub mod Runs

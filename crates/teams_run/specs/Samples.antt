@@ -1,6 +1,7 @@
 -- What `sample` writes: a summary of the solved chain.
 use Rattle.std.specs.Prelude.{◌≡◌, ℕ, List, [], ◌∷◌, length, codes, None}
 use Rattle.seq_theory.specs.Problem.{Problem}
+use Rattle.seq_theory.specs.States.{problem_of_classes}
 use Rattle.seq_inst.specs.declared.outcome.Outcome.{Outcome}
 use Rattle.seq_inst.specs.declared.outcome.Verdict.{Verdict}
 use Rattle.sig_types.specs.declared.model.Model.{Model}
@@ -39,8 +40,7 @@ pub record IsSummary (parts groups : ℕ) (verdict : Verdict) (text : List ℕ) 
   pub matrix : Matrix
   pub flat_is : IsFlatOf (chain_model parts) flat
   pub matrix_is : IsMatrixOf flat None matrix
-  pub problem : Problem
   pub outcome : Outcome
-  pub solved : IsSolved (system_of matrix) problem groups outcome
+  pub solved : IsSolved (system_of matrix) (problem_of_classes (system_of matrix)) groups outcome
   pub verdict_is : outcome.verdict ≡ verdict
-  pub text_is : text ≡ bytes_of (summary_lines parts matrix problem outcome)
+  pub text_is : text ≡ bytes_of (summary_lines parts matrix (problem_of_classes (system_of matrix)) outcome)

@@ -1,22 +1,23 @@
 -- What solving a system means, in words of single states, and its report.
-use Rattle.std.specs.Prelude.{◌≡◌, ⊤, ℕ, ◌<◌, ◌≤◌, List, length}
+use Rattle.std.specs.Prelude.{◌≡◌, ℕ, ◌<◌, ◌≤◌, nat_lt, List, length}
 use Rattle.seq_theory.specs.Problem.{Problem, all_classes}
 use Rattle.seq_theory.specs.Tree.{Tree, tree_cost, Solves, IsLeast}
-use Rattle.seq_theory.specs.States.{System, state_problem, firsts, IsOfClasses}
+use Rattle.seq_theory.specs.States.{System, state_problem, firsts, IsOfClasses, problem_of_classes}
 use Rattle.seq_inst.specs.declared.outcome.Outcome.{Outcome}
 use Rattle.seq_inst.specs.declared.outcome.Verdict.{Verdict}
 use Rattle.seq_inst.specs.declared.outcome.Verdict.TheVariants.{Optimal, Bounded}
 use Rattle.seq_inst.specs.Trees.{tree_of}
 use Rattle.sig_types.specs.declared.refusals.Refusal.{Refusal}
-use Rattle.sig_types.specs.declared.refusals.ModelFault.{ModelFault}
-use Rattle.sig_types.specs.declared.refusals.ModelFault.TheVariants.{Refused, OutOfMemory}
 use Rattle.sig_types.specs.declared.refusals.Code.TheVariants.{M13}
 use Rattle.sig_types.specs.declared.refusals.Place.TheVariants.{Count}
 use Rattle.sig_types.specs.declared.refusals.Counted.TheVariants.{Classes as ManyClasses}
+use Rattle.sig_types.specs.Breaches.{breach_if}
 use Rattle.sig_lines.specs.declared.labels.Labels.{Labels}
 use Rattle.seq_finish.specs.Outcomes.{IsRightOutcome}
+use Rattle.seq_cert.specs.ReportForm.{IsReport}
 use Rattle.seq_cert.specs.Text.{report_bytes}
 use Rattle.seq_cert.specs.OutcomeReport.{report_from}
+use Rattle.seq_check.specs.Shown.{Shows}
 use Rattle.seq_shown.specs.Laws.{IsAccepted}
 
 -- all states of the system
@@ -55,21 +56,17 @@ pub record IsSolved (sys : System) (problem : Problem) (groups : ℕ) (outcome :
   pub right : IsRightOutcome problem groups outcome
   pub stands : Stands sys outcome
 
--- the text is the report of such an outcome under these labels
+-- the text is the report of such an outcome under these labels, over the one problem of the system's ambiguity groups
 pub record IsSolution (sys : System) (labels : Labels) (groups : ℕ) (verdict : Verdict) (text : List ℕ) : Type 0 where
-  pub problem : Problem
   pub outcome : Outcome
-  pub solved : IsSolved sys problem groups outcome
+  pub solved : IsSolved sys (problem_of_classes sys) groups outcome
   pub verdict_is : outcome.verdict ≡ verdict
-  pub report : text ≡ report_bytes (report_from problem outcome labels)
-  -- the checker accepts it
-  pub accepted : IsAccepted problem labels (report_from problem outcome labels)
+  pub report : text ≡ report_bytes (report_from (problem_of_classes sys) outcome labels)
+  -- it has a report's form, the checker accepts it, and it shows what it says
+  pub form : IsReport (report_from (problem_of_classes sys) outcome labels)
+  pub accepted : IsAccepted (problem_of_classes sys) labels (report_from (problem_of_classes sys) outcome labels)
+  pub shows : Shows (problem_of_classes sys) (report_from (problem_of_classes sys) outcome labels)
 
--- why a system isn't solved: it has more than 512 ambiguity groups
-abbrev pub IsUnsolved : System → Refusal → Type 0
-IsUnsolved sys refusal = (512 < length (firsts sys)) × (refusal ≡ record { code = M13; place = Count ManyClasses })
-
--- why no report came out; want of memory may come at any time
-abbrev pub TellsUnsolved : System → ModelFault → Type 0
-TellsUnsolved sys (Refused refusal) = IsUnsolved sys refusal
-TellsUnsolved sys OutOfMemory = ⊤
+-- what a system is refused for before a search or a check: that it has more than 512 ambiguity groups
+abbrev pub class_refusals : System → List Refusal
+class_refusals sys = breach_if (nat_lt 512 (length (firsts sys))) M13 (Count ManyClasses)

@@ -1,8 +1,8 @@
 -- What is due to be written for a plan.
-use Rattle.std.specs.Prelude.{◌≡◌, ⊤, ◌⊎◌, ℕ, ◌≤◌, List, codes, length, Option, Some, None, unwrap_or}
+use Rattle.std.specs.Prelude.{◌≡◌, ◌⊎◌, ℕ, ◌≤◌, List, [], codes, length, Option, Some, None, unwrap_or}
 use Rattle.sig_types.specs.declared.refusals.Refusal.{Refusal}
 use Rattle.sig_types.specs.declared.refusals.ModelFault.{ModelFault}
-use Rattle.sig_types.specs.declared.refusals.ModelFault.TheVariants.{Refused, OutOfMemory}
+use Rattle.sig_types.specs.declared.refusals.ModelFault.TheVariants.{Refused}
 use Rattle.sig_types.specs.Refused.{TellsFirst}
 use Rattle.sig_edge.specs.Shelf.{Holds, HoldsWhole}
 use Rattle.sig_flat.specs.declared.flat.Flat.{Flat}
@@ -22,7 +22,7 @@ use Rattle.teams_run.specs.declared.status.Status.{Status}
 use Rattle.teams_run.specs.declared.status.Status.TheVariants.{Done, Bounded, ModelRefused, Rejected}
 use Rattle.teams_run.specs.RefusalText.{refusal_line}
 use Rattle.teams_run.specs.Accepted.{IsMatrixOfText, refusals, mode_number}
-use Rattle.teams_run.specs.Solved.{IsSolution, IsUnsolved}
+use Rattle.teams_run.specs.Solved.{IsSolution, class_refusals}
 use Rattle.teams_run.specs.Judged.{IsJudgement}
 
 -- how a text names the mode: by its name, or `-` where none is named
@@ -71,30 +71,23 @@ pub record IsChecked (plan : Plan) (holds : Holds) (content : List ℕ) (status 
   pub within : length cert ≤ cert_limit
   pub judged : IsJudgement (system_of matrix) (labels_from matrix (mode_word plan.mode)) cert status text
 
--- the actions that take a file whose system has at most 512 ambiguity groups
-abbrev pub NeedsClasses : Action → Type 0
-NeedsClasses Solve = ⊤
-NeedsClasses Check = ⊤
-NeedsClasses MatrixAction = ⊥
-NeedsClasses FiguresAction = ⊥
-NeedsClasses Sample = ⊥
+-- what an action refuses an accepted text's system for: a search and a check take at most 512 ambiguity groups, and the
+-- other actions any number
+abbrev pub fit_refusals : Action → System → List Refusal
+fit_refusals Solve sys = class_refusals sys
+fit_refusals Check sys = class_refusals sys
+fit_refusals action sys = []
 
--- why an action's text can't be made of the matrix of a model
-abbrev pub TellsUnfit : Plan → System → ModelFault → Type 0
-TellsUnfit plan sys (Refused refusal) = NeedsClasses plan.action × IsUnsolved sys refusal
-TellsUnfit plan sys OutOfMemory = ⊤
-
--- the bytes are accepted, but the system is too large for what the plan asks
-pub record IsTooLarge (plan : Plan) (content : List ℕ) (refusal : Refusal) : Type 0 where
-  pub action : NeedsClasses plan.action
+-- the bytes are accepted, and the fault is right for what the action refuses their system for
+pub record IsFaultOfSystem (plan : Plan) (content : List ℕ) (fault : ModelFault) : Type 0 where
   pub flat : Flat
   pub matrix : Matrix
   pub of_text : IsMatrixOfText content plan.mode flat matrix
-  pub unsolved : IsUnsolved (system_of matrix) refusal
+  pub first : TellsFirst (fit_refusals plan.action (system_of matrix)) fault
 
--- the refusal is the first of the text's, or else the system is too large for what the plan asks
-abbrev pub IsRefusal : Plan → List ℕ → Refusal → Type 0
-IsRefusal plan content refusal = TellsFirst (refusals content plan.mode) (Refused refusal) ⊎ IsTooLarge plan content refusal
+-- the fault is right for all layers in their order: a refusal is the first of the text's, or else of its system's
+abbrev pub IsFaultOfBytes : Plan → List ℕ → ModelFault → Type 0
+IsFaultOfBytes plan content fault = TellsFirst (refusals content plan.mode) fault ⊎ IsFaultOfSystem plan content fault
 
 -- the bytes are accepted, and their system isn't too large for a search or a check
 pub record IsFit (plan : Plan) (content : List ℕ) : Type 0 where
@@ -103,15 +96,10 @@ pub record IsFit (plan : Plan) (content : List ℕ) : Type 0 where
   pub of_text : IsMatrixOfText content plan.mode flat matrix
   pub few : length (firsts (system_of matrix)) ≤ 512
 
--- why no text came out; want of memory may come at any time
-abbrev pub TellsWhy : Plan → List ℕ → ModelFault → Type 0
-TellsWhy plan content (Refused refusal) = IsRefusal plan content refusal
-TellsWhy plan content OutOfMemory = ⊤
-
 -- the bytes are refused, and the text is the line that says with which code and where
 pub record IsRefused (plan : Plan) (content text : List ℕ) : Type 0 where
   pub refusal : Refusal
-  pub refused : IsRefusal plan content refusal
+  pub refused : IsFaultOfBytes plan content (Refused refusal)
   pub line : text ≡ refusal_line refusal
 
 -- what is due for the bytes of a model, with the status that goes with it

@@ -10,8 +10,7 @@ ghost use Rattle.seq_shown.specs.Laws.{ArePrintable};
 ghost use Rattle.teams_run.specs.Accepted.{IsMatrixOfText, mode_number, refusals};
 ghost use Rattle.teams_words.specs.Plans.{IsLimit};
 ghost use Rattle.teams_run.specs.Ready.{IsPrepared};
-ghost use Rattle.teams_run.specs.Solved.{IsUnsolved, TellsUnsolved};
-ghost use Rattle.teams_run.specs.Texts.{IsFiguresText, IsTextFor, IsAnswer, TellsUnfit, TellsWhy, mode_word};
+ghost use Rattle.teams_run.specs.Texts.{IsFiguresText, IsTextFor, IsAnswer, IsFaultOfBytes, fit_refusals, mode_word};
 
 use crate::accepting::{flat_of_text, mode_of};
 use crate::due::Due;
@@ -99,13 +98,14 @@ fn figured(
 }
 
 /// What `solve` writes of the matrix.
+#[tactic(auto, using(crate::proofs::UnfitLaws::unsolved))]
 fn solve_due(alloc: Global, plan: &Plan, flat: &Flat, matrix: &Matrix) -> Result<Due, ModelFault>
     requires action { plan.now.action ≡ Action.Solve }
     requires limit { IsLimit plan.now.groups }
     requires valid { IsValid matrix.now }
     requires labels { ArePrintable (labels_from matrix.now (mode_word plan.now.mode)) }
     ensures text { IfOk result (λ due. IsTextFor Action.Solve plan.now flat.now matrix.now due.status due.text.items) }
-    ensures unsolved { IfErr result (TellsUnsolved (system_of matrix.now)) }
+    ensures unfit { IfErr result (TellsFirst (fit_refusals plan.now.action (system_of matrix.now))) }
 {
     let name = mode_name(plan);
     let prepared = prepare(alloc, matrix, name)?;
@@ -136,7 +136,7 @@ fn action_due(alloc: Global, plan: &Plan, accepted: &Accepted) -> Result<Due, Mo
     requires valid { IsValid accepted.now.matrix }
     requires labels { ArePrintable (labels_from accepted.now.matrix (mode_word plan.now.mode)) }
     ensures text { IfOk result (λ due. IsTextFor plan.now.action plan.now accepted.now.flat accepted.now.matrix due.status due.text.items) }
-    ensures unfit { IfErr result (TellsUnfit plan.now (system_of accepted.now.matrix)) }
+    ensures unfit { IfErr result (TellsFirst (fit_refusals plan.now.action (system_of accepted.now.matrix))) }
 {
     let matrix = &accepted.matrix;
     let name = mode_name(plan);
@@ -160,14 +160,13 @@ pub fn answer_for(alloc: Global, plan: &Plan, content: &[u8]) -> Result<Due, Mod
     requires file { plan.now.action ≢ Action.Sample }
     requires limit { IsLimit plan.now.groups }
     ensures answer { IfOk result (λ due. IsAnswer plan.now content.now due.status due.text.items) }
-    ensures refused { IfErr result (TellsWhy plan.now content.now) }
+    ensures refused { IfErr result (IsFaultOfBytes plan.now content.now) }
 {
     let accepted = accept(alloc, plan, content)?;
     action_due(alloc, plan, &accepted)
 }
 
 /// The matrix of the text with its instance, against which a certificate is checked.
-#[tactic(auto, using(crate::proofs::UnfitLaws::unchecked))]
 pub fn prepared_for(
     alloc: Global,
     plan: &Plan,
@@ -177,7 +176,7 @@ pub fn prepared_for(
     ensures text { IfOk result (λ both. IsMatrixOfText content.now plan.now.mode both.0.flat both.0.matrix) }
     ensures valid { IfOk result (λ both. IsValid both.0.matrix) }
     ensures prepared { IfOk result (λ both. IsPrepared both.0.matrix (mode_word plan.now.mode) both.1) }
-    ensures refused { IfErr result (TellsWhy plan.now content.now) }
+    ensures refused { IfErr result (IsFaultOfBytes plan.now content.now) }
 {
     let accepted = accept(alloc, plan, content)?;
     let prepared = prepare(alloc, &accepted.matrix, mode_name(plan))?;

@@ -3,14 +3,13 @@
 ghost use Rattle.std.specs.Prelude.{◌≡◌, ◌≤◌, length, IfOk, IfErr, OnOk};
 ghost use Rattle.seq_theory.specs.States.{IsOfClasses};
 ghost use Rattle.seq_inst.specs.Instances.{problem_of};
-ghost use Rattle.sig_matrix.specs.Valid.{IsValid};
 ghost use Rattle.sig_matrix.specs.Detection.{system_of};
 ghost use Rattle.sig_classes.specs.Labels.{labels_from};
 ghost use Rattle.sig_lines.specs.Written.{with_line};
 ghost use Rattle.seq_cert.specs.LabelsOf.{AreLabelsOf};
 ghost use Rattle.seq_check.specs.Shown.{Shows};
 ghost use Rattle.teams_run.specs.Ready.{IsPrepared};
-ghost use Rattle.teams_run.specs.Judged.{IsGood, IsJudgement, ShowsStates, TellsBad, accepted_words, accepted_line, rejected_words, rejected_line};
+ghost use Rattle.teams_run.specs.Judged.{IsFirstBad, IsGood, IsJudgement, ShowsStates, TellsBad, accepted_words, accepted_line, rejected_words, rejected_line};
 
 use crate::due::Due;
 use crate::preparing::Prepared;
@@ -24,6 +23,7 @@ use sig_matrix::Matrix;
 use std::alloc::{AllocError, Global};
 
 /// The report whose text the bytes are, where no line of it is bad.
+#[tactic(auto, using(crate::proofs::BadLaws::bad_form, crate::proofs::BadLaws::bad_look))]
 fn good_report(
     alloc: Global,
     inst: &Instance,
@@ -91,6 +91,47 @@ fn rejected_line(alloc: Global, bad: BadLine) -> Result<Vec<u8>, AllocError>
     Ok(out.into_bytes())
 }
 
+/// What is due for a certificate that is a good report.
+fn accepted_due(
+    alloc: Global,
+    matrix: &Matrix,
+    prepared: &Prepared,
+    mode: &str,
+    cert: &[u8],
+    report: &Report,
+) -> Result<Due, AllocError>
+    requires prepared { IsPrepared matrix.now mode.now prepared.now }
+    requires good { IsGood (problem_of prepared.now.inst) prepared.now.labels cert.now report.now }
+    ensures { IfOk result (λ due. IsJudgement (system_of matrix.now) (labels_from matrix.now mode.now) cert.now due.status due.text.items) }
+{
+    report_stands(matrix, &prepared.inst, report);
+    let text = accepted_line(alloc, report)?;
+    Ok(Due {
+        status: Status::Done,
+        text,
+    })
+}
+
+/// What is due for a certificate with a bad line.
+fn rejected_due(
+    alloc: Global,
+    matrix: &Matrix,
+    prepared: &Prepared,
+    mode: &str,
+    cert: &[u8],
+    bad: BadLine,
+) -> Result<Due, AllocError>
+    requires prepared { IsPrepared matrix.now mode.now prepared.now }
+    requires first { IsFirstBad (problem_of prepared.now.inst) prepared.now.labels cert.now bad }
+    ensures { IfOk result (λ due. IsJudgement (system_of matrix.now) (labels_from matrix.now mode.now) cert.now due.status due.text.items) }
+{
+    let text = rejected_line(alloc, bad)?;
+    Ok(Due {
+        status: Status::Rejected,
+        text,
+    })
+}
+
 /// What is due for the bytes of a certificate.
 pub fn judgement_on(
     alloc: Global,
@@ -99,27 +140,13 @@ pub fn judgement_on(
     mode: &str,
     cert: &[u8],
 ) -> Result<Due, AllocError>
-    requires valid { IsValid matrix.now }
     requires prepared { IsPrepared matrix.now mode.now prepared.now }
     requires short { length cert.now ≤ 16777216 }
     ensures { IfOk result (λ due. IsJudgement (system_of matrix.now) (labels_from matrix.now mode.now) cert.now due.status due.text.items) }
 {
     match good_report(alloc, &prepared.inst, &prepared.labels, cert) {
-        Ok(report) => {
-            report_stands(matrix, &prepared.inst, &report);
-            let text = accepted_line(alloc, &report)?;
-            Ok(Due {
-                status: Status::Done,
-                text,
-            })
-        }
-        Err(ReportFault::Bad(bad)) => {
-            let text = rejected_line(alloc, bad)?;
-            Ok(Due {
-                status: Status::Rejected,
-                text,
-            })
-        }
+        Ok(report) => accepted_due(alloc, matrix, prepared, mode, cert, &report),
+        Err(ReportFault::Bad(bad)) => rejected_due(alloc, matrix, prepared, mode, cert, bad),
         Err(ReportFault::OutOfMemory) => Err(AllocError),
     }
 }

@@ -7,6 +7,7 @@ mod accepting;
 mod answering;
 mod due;
 mod judging;
+mod laws;
 mod preparing;
 mod refusing;
 mod running;
@@ -14,6 +15,7 @@ mod sampling;
 mod solving;
 mod status;
 
+pub use laws::{one_answer, one_system, solved_is_accepted};
 pub use running::{run, run_quiet};
 pub use status::Status;
 

@@ -3,7 +3,7 @@
 ghost use Rattle.std.specs.Prelude.{◌≡◌, ◌++◌, OnOk, IfOk};
 ghost use Rattle.std.specs.String.{string_bytes};
 ghost use Rattle.sig_lines.specs.Written.{with_line};
-ghost use Rattle.teams_run.specs.RefusalText.{numbered, key_step, item_step, test_step, last_step, spot_word, place_word, refusal_words, refusal_line};
+ghost use Rattle.teams_run.specs.RefusalText.{with_number, key_step, item_step, test_step, last_step, spot_word, place_word, refusal_words, refusal_line};
 
 use sig_lines::Lines;
 use sig_types::{Key, Kind, Place, Refusal};
@@ -11,7 +11,7 @@ use std::alloc::{AllocError, Global};
 
 /// Appends a step of a place: a word, and a number in brackets where there is one.
 fn push_numbered(out: &mut String, word: &str, number: Option<u64>) -> Result<(), AllocError>
-    ensures { OnOk result (string_bytes out.new ≡ string_bytes out.old ++ numbered word.now number) }
+    ensures { OnOk result (string_bytes out.new ≡ string_bytes out.old ++ with_number word.now number) }
 {
     out.push_str(word)?;
     match number {

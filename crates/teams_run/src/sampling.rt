@@ -1,7 +1,7 @@
 //! The sample: a chain of parts that the program makes itself, which is checked, unfolded and solved by the same calls as
 //! the model of a file, and summed up in a few lines. No chain is refused, so only memory can fail.
 ghost use Rattle.std.specs.Prelude.{◌≡◌, ◌≤◌, length, None, IfOk, IfErr, OnOk};
-ghost use Rattle.seq_theory.specs.States.{IsOfClasses, firsts};
+ghost use Rattle.seq_theory.specs.States.{IsOfClasses, firsts, problem_of_classes};
 ghost use Rattle.seq_inst.specs.Instances.{problem_of};
 ghost use Rattle.sig_types.specs.Breaches.{breaches};
 ghost use Rattle.sig_lines.specs.Pieces.{bytes_of};
@@ -49,7 +49,8 @@ fn flat_of_chain(alloc: Global, parts: u32) -> Result<Flat, AllocError>
 fn instance_of_few(alloc: Global, matrix: &Matrix) -> Result<Instance, AllocError>
     requires valid { IsValid matrix.now }
     requires few { length (firsts (system_of matrix.now)) ≤ 512 }
-    ensures { IfOk result (λ inst. IsOfClasses (system_of matrix.now) (problem_of inst)) }
+    ensures classes { IfOk result (λ inst. IsOfClasses (system_of matrix.now) (problem_of inst)) }
+    ensures problem { IfOk result (λ inst. problem_of inst ≡ problem_of_classes (system_of matrix.now)) }
 {
     let classes = classes_of(alloc, matrix)?;
     match instance_of(alloc, matrix, &classes) {

@@ -17,6 +17,7 @@ ghost use Rattle.teams_run.specs.Solved.{IsSolution, IsSolved, Stands};
 
 use crate::preparing::Prepared;
 use seq_cert::report_of;
+use seq_check::certified_holds;
 use seq_finish::{finish_graph, outcomes_hold};
 use seq_inst::{Instance, Outcome, Verdict};
 use seq_shown::{outcomes_print, reports_hold};
@@ -84,6 +85,7 @@ pub fn solution_of(
     let outcome = outcome_of(alloc, matrix, &prepared.inst, groups)?;
     reports_hold();
     outcomes_print();
+    certified_holds();
     let text = report_of(alloc, &prepared.inst, &outcome, &prepared.labels)?;
     Ok(Solution {
         verdict: outcome.verdict,

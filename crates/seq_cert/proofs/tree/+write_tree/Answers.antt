@@ -39,8 +39,8 @@ returns-in_ok-write_tree-in-Ask-2 t c =
     ap tree_of c.in-Ask.is ∙ ap (λ (x : Tree). ask c.in-Ask.test x (tree_of c.in-Ask.fail.value)) (ap tree_of (sym c.deref.ensures)) ∙ ap (λ (x : Tree). ask c.in-Ask.test pass x) (ap tree_of (sym c.deref-in-Ask.ensures)) in
     let out = c.args.out.now in
     let first = tree_words (Ask c.in-Ask.test) in
-    let passing = map tree_words (tree_lines p pass (members c.part.result)) in
-    let failing = map tree_words (tree_lines p fail (members c.part-in-Ask.result)) in
+    let passing = map tree_words (tree_lines p pass (members c.parts_of-parts.result.pass)) in
+    let failing = map tree_words (tree_lines p fail (members c.parts_of-parts.result.fail)) in
     c.in_ok-write_tree-in-Ask-2.ensures ∙ ap (λ w. with_lines w failing) (c.in_ok-write_tree-in-Ask.ensures ∙ ap (λ w. with_lines w passing) c.in_ok-write_ask-in-Ask.ensures)
     ∙ sym (fold-append with_line out (first ∷ passing) failing)
-    ∙ ap (with_lines out) (ask_lines p c.in-Ask.test pass fail (tree_of c.args.strategy.now) (members c.args.group.now) (members c.part.result) (members c.part-in-Ask.result) is c.part.ensures.classes c.part-in-Ask.ensures.classes)
+    ∙ ap (with_lines out) (ask_lines p c.in-Ask.test pass fail (tree_of c.args.strategy.now) (members c.args.group.now) (members c.parts_of-parts.result.pass) (members c.parts_of-parts.result.fail) is c.parts_of-parts.ensures.pass c.parts_of-parts.ensures.fail)

@@ -11,18 +11,18 @@ use Rattle.seq_inst.specs.Members.{members}
 use Rattle.seq_check.proofs.claim.is_reached.Goals as goal
 
 pub counted-pass-requires-clause-within : goal.counted-pass-requires-clause-within
-counted-pass-requires-clause-within c = c.part-pass_part.ensures.within c.requires.within
+counted-pass-requires-clause-within c = c.parts_of-parts.ensures.pass_within c.requires.within
 
 pub counted-fail-requires-clause-within : goal.counted-fail-requires-clause-within
-counted-fail-requires-clause-within c = c.part-fail_part.ensures.within c.requires.within
+counted-fail-requires-clause-within c = c.parts_of-parts.ensures.fail_within c.requires.within
 
 pub returns-then-low-least_sum : goal.returns-then-low-least_sum
 returns-then-low-least_sum c = λ lines are.
     let p = problem_of c.args.inst.now in
     let group = members c.args.group.now in
     let claims = claims_of lines in
-    let pass : c.listed-pass_low.result ≡ claim_of claims (pass_part p c.args.test group) = c.listed-pass_low.ensures lines are ∙ ap (claim_of claims) c.part-pass_part.ensures.classes in
-    let fail : c.listed-fail_low.result ≡ claim_of claims (fail_part p c.args.test group) = c.listed-fail_low.ensures lines are ∙ ap (claim_of claims) c.part-fail_part.ensures.classes in
+    let pass : c.listed-pass_low.result ≡ claim_of claims (pass_part p c.args.test group) = c.listed-pass_low.ensures lines are ∙ ap (claim_of claims) c.parts_of-parts.ensures.pass in
+    let fail : c.listed-fail_low.result ≡ claim_of claims (fail_part p c.args.test group) = c.listed-fail_low.ensures lines are ∙ ap (claim_of claims) c.parts_of-parts.ensures.fail in
     let most = c.least_sum.ensures in
     let reached = c.if-low-least_sum.true in
     let le : c.args.low ≤ step_sum p (bound p) group c.args.test = omega arith in
@@ -33,6 +33,6 @@ returns c = λ lines are.
     let p = problem_of c.args.inst.now in
     let cost : c.from.result ≡ p.cost c.args.test = c.from.ensures ∙ c.index.ensures ∙ get_or_default c.args.inst.now.costs.items c.args.test c.index.result.now 0 (let n = c.args.inst.now.costs.ok.0 in let there = c.requires.there in omega arith) in
     ap (λ n. nat_le n (c.from.result * c.from-2.result + (c.from-4.result + c.from-5.result))) c.from-3.ensures
-    ∙ counted_sum p (claims_of lines) (members c.args.group.now) (members c.part-pass_part.result) (members c.part-fail_part.result) c.args.test c.args.low c.from.result c.from-2.result c.from-4.result c.from-5.result c.listed-pass_low.result c.listed-fail_low.result
-    c.part-pass_part.ensures.classes c.part-fail_part.ensures.classes (c.listed-pass_low.ensures lines are) (c.listed-fail_low.ensures lines are)
+    ∙ counted_sum p (claims_of lines) (members c.args.group.now) (members c.parts_of-parts.result.pass) (members c.parts_of-parts.result.fail) c.args.test c.args.low c.from.result c.from-2.result c.from-4.result c.from-5.result c.listed-pass_low.result c.listed-fail_low.result
+    c.parts_of-parts.ensures.pass c.parts_of-parts.ensures.fail (c.listed-pass_low.ensures lines are) (c.listed-fail_low.ensures lines are)
     (c.from-4.ensures ∙ c.counted-pass.ensures) (c.from-5.ensures ∙ c.counted-fail.ensures) cost (c.from-2.ensures ∙ c.requires.weight)

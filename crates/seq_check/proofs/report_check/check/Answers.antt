@@ -8,4 +8,4 @@ pub first_bad_line-requires-clause-fits : goal.first_bad_line-requires-clause-fi
 first_bad_line-requires-clause-fits c = let within = missed-within c.args.report.now in let short = c.requires.short in omega arith
 
 pub returns-in-None-clause-shows : goal.returns-in-None-clause-shows
-returns-in-None-clause-shows c = certified_shows (problem_of c.args.inst.now) c.args.labels.now c.args.report.now c.args.inst.now.stands.weighed c.args.inst.now.stands.told (sym c.in_ok-bad.ensures ∙ c.in-None.is)
+returns-in-None-clause-shows c = certified_shows c.certificate_holds.ensures.sound (problem_of c.args.inst.now) c.args.labels.now c.args.report.now c.args.inst.now.stands.weighed c.args.inst.now.stands.told (sym c.in_ok-bad.ensures ∙ c.in-None.is)

@@ -11,14 +11,14 @@ use Rattle.seq_check.proofs.tree.settle.Goals as goal
 pub returns-in_ok-push-in-Ask-2-clause-left : goal.returns-in_ok-push-in-Ask-2-clause-left
 returns-in_ok-push-in-Ask-2-clause-left c =
     let p = problem_of c.args.inst.now in
-    both_left p c.in-Ask.test (members c.args.group.now) c.args.stack.now.items c.push.new.self.items c.push-in-Ask.new.self.items c.part.result c.part-in-Ask.result
-    c.in_ok-push-in-Ask.ensures.items c.in_ok-push-in-Ask-2.ensures.items c.part.ensures.classes c.part-in-Ask.ensures.classes
+    both_left p c.in-Ask.test (members c.args.group.now) c.args.stack.now.items c.push.new.self.items c.push-in-Ask.new.self.items c.parts_of-parts.result.fail c.parts_of-parts.result.pass
+    c.in_ok-push-in-Ask.ensures.items c.in_ok-push-in-Ask-2.ensures.items c.parts_of-parts.ensures.fail c.parts_of-parts.ensures.pass
     ∙ ap (λ (l : TreeLine). left_after p (members c.args.group.now) l (waiting c.args.stack.now.items)) (sym c.in-Ask.is)
 
 pub returns-in_ok-push-in-Ask-2-clause-within : goal.returns-in_ok-push-in-Ask-2-clause-within
 returns-in_ok-push-in-Ask-2-clause-within c =
-    both_within (problem_of c.args.inst.now) c.in-Ask.test (members c.args.group.now) c.args.stack.now.items c.push.new.self.items c.push-in-Ask.new.self.items c.part.result c.part-in-Ask.result
-    c.in_ok-push-in-Ask.ensures.items c.in_ok-push-in-Ask-2.ensures.items c.part.ensures.classes c.part-in-Ask.ensures.classes c.requires.within c.requires.all_within
+    both_within (problem_of c.args.inst.now) c.in-Ask.test (members c.args.group.now) c.args.stack.now.items c.push.new.self.items c.push-in-Ask.new.self.items c.parts_of-parts.result.fail c.parts_of-parts.result.pass
+    c.in_ok-push-in-Ask.ensures.items c.in_ok-push-in-Ask-2.ensures.items c.parts_of-parts.ensures.fail c.parts_of-parts.ensures.pass c.requires.within c.requires.all_within
 
 pub returns-in_ok-push-in-Ask-2-clause-small : goal.returns-in_ok-push-in-Ask-2-clause-small
 returns-in_ok-push-in-Ask-2-clause-small c =

@@ -8,7 +8,7 @@ use Rattle.seq_inst.specs.Trees.{tree_of}
 use Rattle.seq_core.specs.Tables.{placed_groups}
 use Rattle.seq_core.specs.Settled.{groups_in, settled_rows}
 use Rattle.seq_finish.specs.Outcomes.{IsSettled}
-use Rattle.seq_finish.proofs.OutcomeLaws.{settled-all, settled-entered, are-entered, root-valued, outcome-right, outcome-shape, outcome-proper, outcomes_hold}
+use Rattle.seq_finish.proofs.OutcomeLaws.{settled-all, settled-entered, are-entered, root-valued, outcome-right, outcome-shape, outcome-proper}
 use Rattle.seq_finish.proofs.ending.finish_settled.Goals as goal
 
 pub index_of-requires-clause-distinct : goal.index_of-requires-clause-distinct
@@ -117,4 +117,4 @@ returns-clause-short c =
     (outcome-shape c.args.inst.now (groups_in rows) (tree_of c.in_ok-strategy.strategy) c.requires.root (c.in_ok-strategy.ensures.strategy ∙ ap (λ g. strat p g (members c.root-all.result)) same2 ∙ ap (strat p (groups_in rows)) c.root-all.ensures.classes)).short
 
 pub returns-clause-stands : goal.returns-clause-stands
-returns-clause-stands c = λ least l. outcomes_hold (problem_of c.args.inst.now) c.args.limit least _ c.args.inst.now.stands.weighed c.args.inst.now.valid.told (returns-clause-right c) l
+returns-clause-stands c = λ least l. c.outcomes_hold.ensures (problem_of c.args.inst.now) c.args.limit least _ c.args.inst.now.stands.weighed c.args.inst.now.valid.told (returns-clause-right c) l

@@ -19,8 +19,8 @@ returns-then-greedy_of-value-clause-strategy t c =
     (sym (strat-greedy (problem_of c.args.inst.now) (groups_in c.args.rows.now) (members c.args.group.now) c.in-Some.value c.requires.within (sym c.is_leaf.ensures ∙ c.if-is_leaf.false) (sym c.value_of.ensures ∙ c.in-Some.is)
     (sym c.greedy_of.ensures.value ∙ c.if-greedy_of-value.true)))
 
-pub part-pass_part-requires : goal.part-pass_part-requires
-part-pass_part-requires t c =
+pub parts_of-parts-requires : goal.parts_of-parts-requires
+parts_of-parts-requires t c =
     let h = code_parts c.args.inst.now (groups_in c.args.rows.now) c.args.group.now c.in-Some.value c.value_test-test.result c.greedy_of.result c.requires.within (sym c.is_leaf.ensures ∙ c.if-is_leaf.false) (sym c.value_of.ensures ∙ c.in-Some.is) c.greedy_of.ensures.value c.if-greedy_of-value.false c.value_test-test.ensures in
     let there = h.there in
     let n = c.args.inst.now.costs.ok.0 in
@@ -31,23 +31,16 @@ strategy_of-requires t c =
     let h = code_parts c.args.inst.now (groups_in c.args.rows.now) c.args.group.now c.in-Some.value c.value_test-test.result c.greedy_of.result c.requires.within (sym c.is_leaf.ensures ∙ c.if-is_leaf.false) (sym c.value_of.ensures ∙ c.in-Some.is) c.greedy_of.ensures.value c.if-greedy_of-value.false c.value_test-test.ensures in
     let d = c.decreases in
     let smaller = h.pass_smaller in
-    let same = ap length c.part-pass_part.ensures.classes in
-    (omega arith, (c.greedy_of.ensures.numbers, (c.requires.placed, (c.requires.settled, (subst (IsWithin (problem_of c.args.inst.now)) (sym c.part-pass_part.ensures.classes) h.pass.within, ap is_some (ap (val (problem_of c.args.inst.now) (groups_in c.args.rows.now)) c.part-pass_part.ensures.classes ∙ h.pass.value_is))))))
-
-pub part-fail_part-requires : goal.part-fail_part-requires
-part-fail_part-requires t c =
-    let h = code_parts c.args.inst.now (groups_in c.args.rows.now) c.args.group.now c.in-Some.value c.value_test-test.result c.greedy_of.result c.requires.within (sym c.is_leaf.ensures ∙ c.if-is_leaf.false) (sym c.value_of.ensures ∙ c.in-Some.is) c.greedy_of.ensures.value c.if-greedy_of-value.false c.value_test-test.ensures in
-    let there = h.there in
-    let n = c.args.inst.now.costs.ok.0 in
-    omega arith
+    let same = ap length c.parts_of-parts.ensures.pass in
+    (omega arith, (c.greedy_of.ensures.numbers, (c.requires.placed, (c.requires.settled, (subst (IsWithin (problem_of c.args.inst.now)) (sym c.parts_of-parts.ensures.pass) h.pass.within, ap is_some (ap (val (problem_of c.args.inst.now) (groups_in c.args.rows.now)) c.parts_of-parts.ensures.pass ∙ h.pass.value_is))))))
 
 pub strategy_of-requires-2 : goal.strategy_of-requires-2
 strategy_of-requires-2 t c =
     let h = code_parts c.args.inst.now (groups_in c.args.rows.now) c.args.group.now c.in-Some.value c.value_test-test.result c.greedy_of.result c.requires.within (sym c.is_leaf.ensures ∙ c.if-is_leaf.false) (sym c.value_of.ensures ∙ c.in-Some.is) c.greedy_of.ensures.value c.if-greedy_of-value.false c.value_test-test.ensures in
     let d = c.decreases in
     let smaller = h.fail_smaller in
-    let same = ap length c.part-fail_part.ensures.classes in
-    (omega arith, (c.strategy_of.ensures.numbers, (c.requires.placed, (c.requires.settled, (subst (IsWithin (problem_of c.args.inst.now)) (sym c.part-fail_part.ensures.classes) h.fail.within, ap is_some (ap (val (problem_of c.args.inst.now) (groups_in c.args.rows.now)) c.part-fail_part.ensures.classes ∙ h.fail.value_is))))))
+    let same = ap length c.parts_of-parts.ensures.fail in
+    (omega arith, (c.strategy_of.ensures.numbers, (c.requires.placed, (c.requires.settled, (subst (IsWithin (problem_of c.args.inst.now)) (sym c.parts_of-parts.ensures.fail) h.fail.within, ap is_some (ap (val (problem_of c.args.inst.now) (groups_in c.args.rows.now)) c.parts_of-parts.ensures.fail ∙ h.fail.value_is))))))
 
 pub returns-clause-strategy : goal.returns-clause-strategy
 returns-clause-strategy t c =
@@ -55,6 +48,6 @@ returns-clause-strategy t c =
     let entered = groups_in c.args.rows.now in
     let xs = members c.args.group.now in
     made-same c.ask_first.result _ _ c.ask_first.ensures
-    (ap (λ x. ask c.value_test-test.result x (tree_of c.in_ok-fail.fail)) (c.in_ok-pass.ensures.strategy ∙ ap (strat p entered) c.part-pass_part.ensures.classes)
-    ∙ ap (λ x. ask c.value_test-test.result (strat p entered (pass_part p c.value_test-test.result xs)) x) (c.in_ok-fail.ensures.strategy ∙ ap (strat p entered) c.part-fail_part.ensures.classes)
+    (ap (λ x. ask c.value_test-test.result x (tree_of c.in_ok-fail.fail)) (c.in_ok-pass.ensures.strategy ∙ ap (strat p entered) c.parts_of-parts.ensures.pass)
+    ∙ ap (λ x. ask c.value_test-test.result (strat p entered (pass_part p c.value_test-test.result xs)) x) (c.in_ok-fail.ensures.strategy ∙ ap (strat p entered) c.parts_of-parts.ensures.fail)
     ∙ sym (strat-ask p entered xs c.in-Some.value c.value_test-test.result c.requires.within (sym c.is_leaf.ensures ∙ c.if-is_leaf.false) (sym c.value_of.ensures ∙ c.in-Some.is) (λ h. c.if-greedy_of-value.false (c.greedy_of.ensures.value ∙ h)) c.value_test-test.ensures))

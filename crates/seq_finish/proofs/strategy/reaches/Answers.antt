@@ -24,16 +24,16 @@ pub overflow_add-result : goal.overflow_add-result
 overflow_add-result c =
     let p = problem_of c.args.inst.now in
     let xs = members c.args.group.now in
-    let a = value-small c.args.inst.now (groups_in c.args.rows.now) c.part-pass_part.result c.in-Some-Some.pass (c.part-pass_part.ensures.within c.requires.within) (sym c.value_of.ensures ∙ c.in-Some-Some.is-0) in
-    let b = value-small c.args.inst.now (groups_in c.args.rows.now) c.part-fail_part.result c.in-Some-Some.fail (c.part-fail_part.ensures.within c.requires.within) (sym c.value_of-2.ensures ∙ c.in-Some-Some.is-1) in
+    let a = value-small c.args.inst.now (groups_in c.args.rows.now) c.parts_of-parts.result.pass c.in-Some-Some.pass (c.parts_of-parts.ensures.pass_within c.requires.within) (sym c.value_of.ensures ∙ c.in-Some-Some.is-0) in
+    let b = value-small c.args.inst.now (groups_in c.args.rows.now) c.parts_of-parts.result.fail c.in-Some-Some.fail (c.parts_of-parts.ensures.fail_within c.requires.within) (sym c.value_of-2.ensures ∙ c.in-Some-Some.is-1) in
     omega arith
 
 pub overflow_add-result-in-Some-Some : goal.overflow_add-result-in-Some-Some
 overflow_add-result-in-Some-Some c =
     let p = problem_of c.args.inst.now in
     let xs = members c.args.group.now in
-    let a = value-small c.args.inst.now (groups_in c.args.rows.now) c.part-pass_part.result c.in-Some-Some.pass (c.part-pass_part.ensures.within c.requires.within) (sym c.value_of.ensures ∙ c.in-Some-Some.is-0) in
-    let b = value-small c.args.inst.now (groups_in c.args.rows.now) c.part-fail_part.result c.in-Some-Some.fail (c.part-fail_part.ensures.within c.requires.within) (sym c.value_of-2.ensures ∙ c.in-Some-Some.is-1) in
+    let a = value-small c.args.inst.now (groups_in c.args.rows.now) c.parts_of-parts.result.pass c.in-Some-Some.pass (c.parts_of-parts.ensures.pass_within c.requires.within) (sym c.value_of.ensures ∙ c.in-Some-Some.is-0) in
+    let b = value-small c.args.inst.now (groups_in c.args.rows.now) c.parts_of-parts.result.fail c.in-Some-Some.fail (c.parts_of-parts.ensures.fail_within c.requires.within) (sym c.value_of-2.ensures ∙ c.in-Some-Some.is-1) in
     let n = c.args.inst.now.costs.ok.0 in
     let t = c.requires.there in
     let there : c.args.test < p.tests = omega arith in

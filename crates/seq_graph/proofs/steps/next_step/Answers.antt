@@ -31,7 +31,7 @@ returns-in-Pass-clause-step c =
     let pass : members c.group_at-pass_part.result ≡ pass_part p split.test g = number-group s.numbers.groups split.pass _ _ c.group_at-pass_part.ensures e.parts.passing in
     let fail : members c.group_at-fail_part.result ≡ fail_part p split.test g = number-group s.numbers.groups split.fail _ _ c.group_at-fail_part.ensures e.parts.failing in
     subst (λ l. IsStep p l (members (group_at l c.args.place)) c.step_of.result) e.rows (subst (IsStep p rows g) (sym c.step_of.ensures)
-    (step-holds c.args.inst.now rows known c.args.place split.test c.group_at-pass_part.result c.knowledge_of-pass_known.result c.group_at-fail_part.result c.knowledge_of-fail_known.result place e.test first pass fail
+    (step-holds c.walks_hold.ensures c.args.inst.now rows known c.args.place split.test c.group_at-pass_part.result c.knowledge_of-pass_known.result c.group_at-fail_part.result c.knowledge_of-fail_known.result place e.test first pass fail
     (c.knowledge_of-pass_known.ensures _ c.group_at-pass_part.ensures) (c.knowledge_of-fail_known.ensures _ c.group_at-fail_part.ensures)))
 
 pub returns-in-Fail-clause-step : goal.returns-in-Fail-clause-step
@@ -52,7 +52,7 @@ returns-in-Fail-clause-step c =
     let pass : members c.group_at-pass_part.result ≡ pass_part p split.test g = number-group s.numbers.groups split.pass _ _ c.group_at-pass_part.ensures e.parts.passing in
     let fail : members c.group_at-fail_part.result ≡ fail_part p split.test g = number-group s.numbers.groups split.fail _ _ c.group_at-fail_part.ensures e.parts.failing in
     subst (λ l. IsStep p l (members (group_at l c.args.place)) c.step_of-in-Fail.result) e.rows (subst (IsStep p rows g) (sym c.step_of-in-Fail.ensures)
-    (fail-step-holds c.args.inst.now rows known c.args.place split.test c.group_at-pass_part.result c.knowledge_of-pass_known.result c.group_at-fail_part.result c.knowledge_of-fail_known.result place e.test first pass fail
+    (fail-step-holds c.walks_hold.ensures c.args.inst.now rows known c.args.place split.test c.group_at-pass_part.result c.knowledge_of-pass_known.result c.group_at-fail_part.result c.knowledge_of-fail_known.result place e.test first pass fail
     (c.knowledge_of-pass_known.ensures _ c.group_at-pass_part.ensures) (c.knowledge_of-fail_known.ensures _ c.group_at-fail_part.ensures)))
 
 pub returns-in-Pass-clause-first : goal.returns-in-Pass-clause-first

@@ -14,4 +14,4 @@ loop-state-preserved c =
     c.weight.ensures c.in_ok-add_state.ensures.words c.in_ok-add_state.ensures.rows c.in_ok-add_state.ensures.class c.in_ok-add_state.ensures.weights
 
 pub returns : goal.returns
-returns c = grouped-all c.args.matrix.now c.requires c.loop-state.state (omega arith) _ c.loop-state.classes c.loop-state.invariant
+returns c = grouped-all c.args.matrix.now c.requires c.groups_hold.ensures c.loop-state.state (omega arith) _ c.loop-state.classes c.loop-state.invariant

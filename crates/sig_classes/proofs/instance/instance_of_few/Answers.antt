@@ -9,7 +9,7 @@ use Rattle.sig_classes.proofs.instance.instance_of_few.Goals as goal
 pub new-requires : goal.new-requires
 new-requires c =
     is_valid c.args.matrix.now c.requires.valid c.args.classes.now c.requires.classes c.in_ok-weights.weights.items c.in_ok-costs.costs.items c.in_ok-passes.passes.items
-    (c.in_ok-weights.ensures.items ∙ c.as_slice.ensures.value) (c.in_ok-costs.ensures ∙ ap (map (λ (t : TestLabel). t.cost)) c.as_slice-2.ensures) c.in_ok-passes.ensures c.requires.few
+    (c.in_ok-weights.ensures.items ∙ c.as_slice.ensures.value) (c.in_ok-costs.ensures ∙ ap (map (λ (t : TestLabel). t.cost)) c.as_slice-2.ensures) c.in_ok-passes.ensures c.classes_hold.ensures c.requires.few
 
 pub returns-clause-instance : goal.returns-clause-instance
 returns-clause-instance c =

@@ -1,5 +1,4 @@
 use Rattle.std.proofs.Common.{arith}
-use Rattle.sig_matrix.specs.Detection.{system_of}
 use Rattle.sig_figures.proofs.NamedLaws.{figures-named}
 use Rattle.sig_figures.proofs.summary.figures_of.Goals as goal
 

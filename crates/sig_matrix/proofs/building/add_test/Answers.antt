@@ -19,7 +19,7 @@ is_detected-requires-clause-part c =
     let same : faults ≡ c.args.flat.now.faults = c.as_slice-faults.ensures in
     let lt : i < length faults = omega arith in
     let at : Contains faults fault = subst (λ (f : Fault). Contains faults f) (sym c.index-faults-fault.is) (Contains-get_or faults i fault lt) in
-    let there = (c.requires.valid.fault_parts fault (subst (λ l. Contains l fault) same at)).0 in
+    let there = (c.args.flat.now.valid.fault_parts fault (subst (λ l. Contains l fault) same at)).0 in
     subst (λ (f : Flat). fault.node < length f.nodes) (sym c.requires.reach) there
 
 pub loop-fault-preserved : goal.loop-fault-preserved

@@ -16,7 +16,7 @@ rows_of-requires-clause-few c =
     let many = length-map c.in_ok-numbers.numbers.items (test_at flat.tests) in
     let same = ap length c.as_slice.ensures.value in
     let few = taken-few (is_taken c.args.mode) flat.tests in
-    let all = c.requires.valid.tests in
+    let all = c.args.flat.now.valid.tests in
     omega arith
 
 -- the matrix of the parts
@@ -33,4 +33,4 @@ returns-clause-matrix c =
     matrix-from_parts flat c.args.mode (made c) (map (test_at flat.tests) numbers) rows c.in_ok-numbers.ensures.tests refl c.in_ok-faults.ensures.faults (c.in_ok-faults.ensures.rows ∙ c.as_slice-3.ensures.value) labels taken_rows c.in_ok-faults.ensures.words
 
 pub returns-clause-valid : goal.returns-clause-valid
-returns-clause-valid c = valid-from_matrix c.args.flat.now c.args.mode (made c) c.requires.valid (returns-clause-matrix c)
+returns-clause-valid c = valid-from_matrix c.args.flat.now c.args.mode (made c) (returns-clause-matrix c)

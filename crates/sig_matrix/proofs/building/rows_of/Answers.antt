@@ -43,7 +43,7 @@ returns c =
     rows-whole flat (map (test_at source) numbers) c.loop-mode.rows.items c.loop-mode.mode (λ t lt.
     let tn : t < length numbers = omega arith in
     let there = All-get_or (λ k. k < length source) numbers t 0 tn c.requires.there in
-    let p = c.requires.valid.test_points (test_at source (get_or numbers t 0)) (Contains-get_or source (get_or numbers t 0) no_test there) in
+    let p = c.args.flat.now.valid.test_points (test_at source (get_or numbers t 0)) (Contains-get_or source (get_or numbers t 0) no_test there) in
     let e = ap (λ (x : FlatTest). x.mode) (test_at-map source numbers t tn) in
     let below = p.1 in
     let len = c.len-mode-end.ensures in

@@ -1,4 +1,4 @@
-use Rattle.std.proofs.Common.{List, Vec, Global, ◌≡◌, ◌≢◌, ◌<◌, ◌≤◌, ◌+◌, ℕ, length, get_or, sym, ap, ◌∙◌, subst, arith, set, length-set}
+use Rattle.std.proofs.Common.{List, Vec, Global, ◌≡◌, ◌<◌, ◌+◌, ℕ, length, get_or, sym, ap, ◌∙◌, subst, arith, set, length-set}
 use Rattle.std.specs.Prelude.{Bool, true}
 use Rattle.std.proofs.lemmas.List.{get_or_default}
 use Rattle.std.proofs.lemmas.List.Elements.{All-get_or, All-from_get_or, Contains-get_or}
@@ -20,7 +20,7 @@ index_mut-requires c =
     let within = All-get_or (λ k. k < length flat.tests) numbers n 0 lt c.requires.there in
     let test = c.index-tests-number.result in
     let is : test ≡ test_at flat.tests (get_or numbers n 0) = c.index-tests-number.is ∙ ap (λ (l : List FlatTest). get_or l (get_or numbers n 0) test) same ∙ get_or_default flat.tests (get_or numbers n 0) test no_test within in
-    let p = c.requires.valid.test_points (test_at flat.tests (get_or numbers n 0)) (Contains-get_or flat.tests (get_or numbers n 0) no_test within) in
+    let p = c.args.flat.now.valid.test_points (test_at flat.tests (get_or numbers n 0)) (Contains-get_or flat.tests (get_or numbers n 0) no_test within) in
     let there = p.0 in
     let node = ap (λ (t : FlatTest). t.node) is in
     let long = c.loop-number.invariant.0 in
@@ -37,7 +37,7 @@ loop-number-preserved c =
     let within = All-get_or (λ k. k < length flat.tests) numbers n 0 lt c.requires.there in
     let test = c.index-tests-number.result in
     let is : test ≡ test_at flat.tests (get_or numbers n 0) = c.index-tests-number.is ∙ ap (λ (l : List FlatTest). get_or l (get_or numbers n 0) test) same ∙ get_or_default flat.tests (get_or numbers n 0) test no_test within in
-    let p = c.requires.valid.test_points (test_at flat.tests (get_or numbers n 0)) (Contains-get_or flat.tests (get_or numbers n 0) no_test within) in
+    let p = c.args.flat.now.valid.test_points (test_at flat.tests (get_or numbers n 0)) (Contains-get_or flat.tests (get_or numbers n 0) no_test within) in
     let there = p.0 in
     let node = ap (λ (t : FlatTest). t.node) is in
     let i = c.loop-number.invariant in

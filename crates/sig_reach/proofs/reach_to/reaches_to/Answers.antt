@@ -2,7 +2,6 @@ use Rattle.std.proofs.Common.{◌≡◌, ◌<◌, ℕ, length, [], ◌∷◌, �
 use Rattle.std.specs.Prelude.{IsTrue, Some}
 use Rattle.std.proofs.lemmas.List.{get_or_default}
 use Rattle.sig_flat.specs.declared.flat.Flat.{Flat}
-use Rattle.sig_flat.specs.Valid.{IsValid}
 use Rattle.sig_reach.specs.declared.column.Column.{Column}
 use Rattle.sig_reach.specs.Marks.{is_marked}
 use Rattle.sig_reach.specs.Columns.{IsColumn, HasColumn}
@@ -39,4 +38,4 @@ invariant_of-result c =
     let columns : (v : ℕ) → is_marked wanted v ≡ true → HasColumn c.args.flat.now c.args.mode c.loop-node.columns.items v =
     λ v m. (let lt = marked-there wanted v m in
     old.1 v (omega arith) m) in
-    subst (λ (f : Flat). IsValid f × (length c.loop-node.columns.items ≡ length f.nodes) × (length wanted ≡ length f.nodes) × ((v : ℕ) → is_marked wanted v ≡ true → HasColumn f c.args.mode c.loop-node.columns.items v)) e (c.requires.valid, full, many, columns)
+    subst (λ (f : Flat). (length c.loop-node.columns.items ≡ length f.nodes) × (length wanted ≡ length f.nodes) × ((v : ℕ) → is_marked wanted v ≡ true → HasColumn f c.args.mode c.loop-node.columns.items v)) e (full, many, columns)

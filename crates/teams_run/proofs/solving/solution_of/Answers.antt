@@ -1,5 +1,6 @@
-use Rattle.std.proofs.Common.{◌∙◌, refl, sym, ap, subst}
+use Rattle.std.proofs.Common.{◌∙◌, sym, ap, subst}
 use Rattle.seq_inst.specs.Instances.{problem_of}
+use Rattle.sig_matrix.specs.Detection.{system_of}
 use Rattle.sig_classes.specs.Labels.{labels_from}
 use Rattle.seq_cert.specs.LabelsOf.{AreLabelsOf}
 use Rattle.seq_cert.specs.Printable.{IsPrintable}
@@ -7,7 +8,7 @@ use Rattle.seq_cert.specs.ReportForm.{IsReport}
 use Rattle.seq_cert.specs.Text.{report_bytes}
 use Rattle.seq_cert.specs.OutcomeReport.{report_from}
 use Rattle.teams_run.proofs.LabelLaws.{labels-are}
-use Rattle.teams_run.proofs.StandLaws.{weighed}
+use Rattle.teams_run.proofs.ProblemLaws.{solved_as}
 use Rattle.teams_run.proofs.solving.solution_of.Goals as goal
 
 pub report_of-requires-clause-labels : goal.report_of-requires-clause-labels
@@ -17,18 +18,14 @@ report_of-requires-clause-labels c =
 
 pub returns : goal.returns
 returns c =
-    let p = problem_of c.args.prepared.now.inst in
+    let inst = c.args.prepared.now.inst in
+    let p = problem_of inst in
     let o = c.in_ok-outcome.outcome in
     let labels = labels_from c.args.matrix.now c.args.mode.now in
-    let valid = c.args.prepared.now.inst.valid in
+    let solved = c.in_ok-outcome.ensures.solved in
     let form = subst (λ l. IsPrintable o l → IsReport (report_from p o l)) c.requires.prepared.labels c.in_ok-text.ensures.form in
-    record {
-      problem = p;
-      outcome = c.in_ok-outcome.outcome;
-      solved = c.in_ok-outcome.ensures.solved;
-      verdict_is = refl;
-      report = c.in_ok-text.ensures.text ∙ ap (λ l. report_bytes (report_from p c.in_ok-outcome.outcome l)) c.requires.prepared.labels;
-      accepted =
-          c.reports_hold.ensures p labels c.args.groups o (weighed c.args.prepared.now.inst) valid.told c.in_ok-outcome.ensures.solved.right
-          (form (c.outcomes_print.ensures p labels c.args.groups o valid.told (valid.some, valid.few) c.requires.limit c.requires.printable c.in_ok-outcome.ensures.solved.right));
-    }
+    let printable = c.outcomes_print.ensures p labels c.args.groups o inst.valid.told (inst.valid.some, inst.valid.few) c.requires.limit c.requires.printable solved.right in
+    let accepted = c.reports_hold.ensures p labels c.args.groups o inst.stands.weighed inst.stands.told solved.right (form printable) in
+    let report = c.in_ok-text.ensures.text ∙ ap (λ l. report_bytes (report_from p o l)) c.requires.prepared.labels in
+    let shows = c.certified_holds.ensures p labels (report_from p o labels) inst.stands.weighed inst.stands.told accepted.certified in
+    solved_as (system_of c.args.matrix.now) labels p c.requires.prepared.problem c.args.groups o c.in_ok-text.text.items solved report (form printable) accepted shows

@@ -13,14 +13,8 @@ use Rattle.seq_graph.proofs.numbers.Numbers.+greedy_tree.Goals as goal
 pub returns-then-is_leaf-clause-value : goal.returns-then-is_leaf-clause-value
 returns-then-is_leaf-clause-value t c = sym (greedy-end (problem_of c.args.inst.now) (members c.args.group.now) c.args.inst.now.valid.told c.requires.within (sym c.is_leaf.ensures ∙ c.if-is_leaf.true))
 
-pub part-pass_part-requires : goal.part-pass_part-requires
-part-pass_part-requires t c =
-    let l = greedy_there (problem_of c.args.inst.now) (members c.args.group.now) c.greedy_choice-test.result c.args.inst.now.valid.told c.requires.within (sym c.is_leaf.ensures ∙ c.if-is_leaf.false) c.greedy_choice-test.ensures.test in
-    let n = c.args.inst.now.costs.ok.0 in
-    omega arith
-
-pub part-fail_part-requires : goal.part-fail_part-requires
-part-fail_part-requires t c =
+pub parts_of-parts-requires : goal.parts_of-parts-requires
+parts_of-parts-requires t c =
     let l = greedy_there (problem_of c.args.inst.now) (members c.args.group.now) c.greedy_choice-test.result c.args.inst.now.valid.told c.requires.within (sym c.is_leaf.ensures ∙ c.if-is_leaf.false) c.greedy_choice-test.ensures.test in
     let n = c.args.inst.now.costs.ok.0 in
     omega arith
@@ -30,7 +24,7 @@ greedy_tree-requires t c =
     let p = problem_of c.args.inst.now in
     let xs = members c.args.group.now in
     let e = sym c.is_leaf.ensures ∙ c.if-is_leaf.false in
-    let g = greedy_parts p xs (members c.part-pass_part.result) (fail_part p c.greedy_choice-test.result xs) c.greedy_choice-test.result c.args.inst.now.valid.told c.requires.within e c.greedy_choice-test.ensures.test c.part-pass_part.ensures.classes refl in
+    let g = greedy_parts p xs (members c.parts_of-parts.result.pass) (fail_part p c.greedy_choice-test.result xs) c.greedy_choice-test.result c.args.inst.now.valid.told c.requires.within e c.greedy_choice-test.ensures.test c.parts_of-parts.ensures.pass refl in
     let d = c.decreases in
     let s = g.pass_smaller in
     (omega arith, (c.greedy_choice-test.ensures.numbers, g.pass_within))
@@ -40,7 +34,7 @@ greedy_tree-requires-2 t c =
     let p = problem_of c.args.inst.now in
     let xs = members c.args.group.now in
     let e = sym c.is_leaf.ensures ∙ c.if-is_leaf.false in
-    let g = greedy_parts p xs (members c.part-pass_part.result) (members c.part-fail_part.result) c.greedy_choice-test.result c.args.inst.now.valid.told c.requires.within e c.greedy_choice-test.ensures.test c.part-pass_part.ensures.classes c.part-fail_part.ensures.classes in
+    let g = greedy_parts p xs (members c.parts_of-parts.result.pass) (members c.parts_of-parts.result.fail) c.greedy_choice-test.result c.args.inst.now.valid.told c.requires.within e c.greedy_choice-test.ensures.test c.parts_of-parts.ensures.pass c.parts_of-parts.ensures.fail in
     let d = c.decreases in
     let s = g.fail_smaller in
     (omega arith, (c.greedy_tree.ensures.numbers, g.fail_within))
@@ -56,7 +50,7 @@ returns-clause-value t c =
     let p = problem_of c.args.inst.now in
     let xs = members c.args.group.now in
     let e = sym c.is_leaf.ensures ∙ c.if-is_leaf.false in
-    let g = greedy_parts p xs (members c.part-pass_part.result) (members c.part-fail_part.result) c.greedy_choice-test.result c.args.inst.now.valid.told c.requires.within e c.greedy_choice-test.ensures.test c.part-pass_part.ensures.classes c.part-fail_part.ensures.classes in
+    let g = greedy_parts p xs (members c.parts_of-parts.result.pass) (members c.parts_of-parts.result.fail) c.greedy_choice-test.result c.args.inst.now.valid.told c.requires.within e c.greedy_choice-test.ensures.test c.parts_of-parts.ensures.pass c.parts_of-parts.ensures.fail in
     subst (λ x. IfOk c.ask_first.result (λ s. tree_of s ≡ x))
     (ap (λ x. ask c.greedy_choice-test.result x (tree_of c.in_ok-fail.fail)) c.in_ok-pass.ensures.value
-    ∙ ap (λ x. ask c.greedy_choice-test.result (greedy p (members c.part-pass_part.result)) x) c.in_ok-fail.ensures.value ∙ sym g.tree) c.ask_first.ensures
+    ∙ ap (λ x. ask c.greedy_choice-test.result (greedy p (members c.parts_of-parts.result.pass)) x) c.in_ok-fail.ensures.value ∙ sym g.tree) c.ask_first.ensures

@@ -1,15 +1,14 @@
 use Rattle.std.proofs.Common.{◌≡◌, ◌<◌, ◌∙◌, arith}
 use Rattle.std.proofs.lemmas.List.{get_or_read}
-use Rattle.seq_inst.specs.Members.{members}
 use Rattle.seq_inst.specs.Instances.{problem_of}
 use Rattle.seq_graph.proofs.GreedyChoiceLaws.{sum-fits}
 use Rattle.seq_graph.proofs.numbers.Numbers.bound_sum.Goals as goal
 
 pub bound_within-pass-requires-clause-within : goal.bound_within-pass-requires-clause-within
-bound_within-pass-requires-clause-within c = c.part-pass_part.ensures.within c.requires.within
+bound_within-pass-requires-clause-within c = c.parts_of-parts.ensures.pass_within c.requires.within
 
 pub bound_within-fail-requires-clause-within : goal.bound_within-fail-requires-clause-within
-bound_within-fail-requires-clause-within c = c.part-fail_part.ensures.within c.requires.within
+bound_within-fail-requires-clause-within c = c.parts_of-parts.ensures.fail_within c.requires.within
 
 pub overflow_mul-result : goal.overflow_mul-result
 overflow_mul-result c =

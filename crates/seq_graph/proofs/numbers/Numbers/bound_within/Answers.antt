@@ -10,6 +10,6 @@ returns-then-is_leaf-clause-value c = sym (bound-end (problem_of c.args.inst.now
 
 pub returns-in-Some-clause-fits : goal.returns-in-Some-clause-fits
 returns-in-Some-clause-fits c =
-    let e = kept-bound (problem_of c.args.inst.now) c.number_within.new.self c.number_within.ensures.numbers (members c.args.group.now) c.in-Some.number c.bound_at.result c.in-Some.ensures.number c.bound_at.ensures in
+    let e = kept-bound (problem_of c.args.inst.now) c.args.self.now c.requires.numbers (members c.args.group.now) c.in-Some.number c.bound_at.result c.in-Some.ensures.found c.bound_at.ensures in
     let s = c.args.inst.now.stands.bound_fits c.args.group.now c.requires.within in
     omega arith

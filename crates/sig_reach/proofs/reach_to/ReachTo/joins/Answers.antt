@@ -11,17 +11,17 @@ use Rattle.sig_reach.proofs.reach_to.ReachTo.joins.Goals as goal
 pub index-requires : goal.index-requires
 index-requires c =
     let i = c.self.invariant in
-    let long = i.1 in
+    let long = i.0 in
     let t = subst (λ (g : Targets). is_marked g.wanted c.args.to ≡ true) (sym c.self.view_is) c.requires.to in
-    let lt = wanted-there c.self.inside.of.value c.self.inside.wanted.items c.args.to i.2 t in
+    let lt = wanted-there c.self.inside.of.value c.self.inside.wanted.items c.args.to i.1 t in
     omega arith
 
 pub index-requires-in-Some : goal.index-requires-in-Some
 index-requires-in-Some c =
     let i = c.self.invariant in
     let t = subst (λ (g : Targets). is_marked g.wanted c.args.to ≡ true) (sym c.self.view_is) c.requires.to in
-    let lt = wanted-there c.self.inside.of.value c.self.inside.wanted.items c.args.to i.2 t in
-    let r = column-at c.self.inside.of.value c.self.inside.mode c.self.inside.columns.items c.args.to c.index.result.now i.1 lt c.index.ensures (i.3 c.args.to t) in
+    let lt = wanted-there c.self.inside.of.value c.self.inside.wanted.items c.args.to i.1 t in
+    let r = column-at c.self.inside.of.value c.self.inside.mode c.self.inside.columns.items c.args.to c.index.result.now i.0 lt c.index.ensures (i.2 c.args.to t) in
     let s : r.0 ≡ c.in-Some.column = some-same r.0 c.in-Some.column (sym r.1 ∙ c.in-Some.is) in
     let h = subst (λ (k : Column). IsColumn c.self.inside.of.value c.self.inside.mode c.args.to k.carried.items k.joined.items) s r.2 in
     let long = h.long.1 in
@@ -32,16 +32,16 @@ pub unreachable-requires : goal.unreachable-requires
 unreachable-requires c =
     let i = c.self.invariant in
     let t = subst (λ (g : Targets). is_marked g.wanted c.args.to ≡ true) (sym c.self.view_is) c.requires.to in
-    let lt = wanted-there c.self.inside.of.value c.self.inside.wanted.items c.args.to i.2 t in
-    let r = column-at c.self.inside.of.value c.self.inside.mode c.self.inside.columns.items c.args.to c.index.result.now i.1 lt c.index.ensures (i.3 c.args.to t) in
+    let lt = wanted-there c.self.inside.of.value c.self.inside.wanted.items c.args.to i.1 t in
+    let r = column-at c.self.inside.of.value c.self.inside.mode c.self.inside.columns.items c.args.to c.index.result.now i.0 lt c.index.ensures (i.2 c.args.to t) in
     none-some r.0 (sym c.in-None.is ∙ r.1)
 
 pub returns : goal.returns
 returns c =
     let i = c.self.invariant in
     let t = subst (λ (g : Targets). is_marked g.wanted c.args.to ≡ true) (sym c.self.view_is) c.requires.to in
-    let lt = wanted-there c.self.inside.of.value c.self.inside.wanted.items c.args.to i.2 t in
-    let r = column-at c.self.inside.of.value c.self.inside.mode c.self.inside.columns.items c.args.to c.index.result.now i.1 lt c.index.ensures (i.3 c.args.to t) in
+    let lt = wanted-there c.self.inside.of.value c.self.inside.wanted.items c.args.to i.1 t in
+    let r = column-at c.self.inside.of.value c.self.inside.mode c.self.inside.columns.items c.args.to c.index.result.now i.0 lt c.index.ensures (i.2 c.args.to t) in
     let s : r.0 ≡ c.in-Some.column = some-same r.0 c.in-Some.column (sym r.1 ∙ c.in-Some.is) in
     let h = subst (λ (k : Column). IsColumn c.self.inside.of.value c.self.inside.mode c.args.to k.carried.items k.joined.items) s r.2 in
     let from = subst (λ (g : Targets). c.args.from < length g.flat.nodes) (sym c.self.view_is) c.requires.from in

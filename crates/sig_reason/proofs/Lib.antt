@@ -1,0 +1,9 @@
+pub mod Searching
+pub mod Tables
+pub mod RuleLaws
+pub mod WordLaws
+pub mod Gathering
+pub mod FindingLaws
+pub mod LabelLaws
+pub mod LogLaws
+pub mod TextLaws

@@ -1,0 +1,9 @@
+pub mod FaultSets
+pub mod Labelling
+pub mod Words
+pub mod Rows
+pub mod Causes
+pub mod Rules
+pub mod Log
+pub mod LogSteps
+pub mod ReasonText
