@@ -1,12 +1,12 @@
 -- Which keys are known in a part. Without a functional fault these are all but `signals`.
-use Rattle.std.proofs.Common.{◌≡◌, ℕ, Bool, true, false, not, ◌&&◌, List, [], ◌∷◌, Option, Some, None, refl, sym, ap, ap₂, subst, ◌∙◌, inl, inr}
+use Rattle.std.proofs.Common.{◌≡◌, Bool, true, false, not, ◌&&◌, List, Option, Some, None, refl, sym, ap, ap₂, subst, ◌∙◌, inl, inr}
 use Rattle.std.specs.Prelude.{is_some, is_none}
 use Rattle.std.specs.Str.{bytes_eq}
 use Rattle.std.proofs.lemmas.Bool.{cases_Bool}
 use Rattle.std.proofs.lemmas.Slice.Eq.{bytes_eq-Decides}
 use Rattle.toml.specs.Data.{Data, Members, no_members, member}
 use Rattle.sig_types.specs.declared.refusals.Key.{Key}
-use Rattle.sig_types.specs.declared.refusals.Key.TheVariants.{Name, Functional, Signals, General, Stops}
+use Rattle.sig_types.specs.declared.refusals.Key.TheVariants.{Functional, Signals}
 use Rattle.sig_types.specs.Words.{key_word}
 use Rattle.sig_text.specs.Keys.{are_known, faulty_part_keys, is_known, part_keys, value_at}
 use Rattle.sig_text.proofs.Found.{and_false, and_true, found_here, found_later}

@@ -1,12 +1,12 @@
-use Rattle.std.proofs.Common.{◌≡◌, ◌&&◌, ◌≤◌, true, false, List, [], length, map, Some, None, position, string_bytes, refl, sym, ap, ◌∙◌, arith, rules}
+use Rattle.std.proofs.Common.{◌≡◌, ◌&&◌, ◌≤◌, [], length, map, position, string_bytes, refl, sym, ap, ◌∙◌, arith, rules}
 use Rattle.std.proofs.lemmas.List.{length-map}
 use Rattle.std.proofs.lemmas.Bool.{false≢true}
 use Rattle.std.specs.Str.{bytes_eq}
-use Rattle.toml.specs.Data.{Members, member}
+use Rattle.toml.specs.Data.{member}
 use Rattle.toml.specs.View.{view, members_view}
 use Rattle.sig_types.specs.Words.{key_word}
-use Rattle.sig_text.specs.Keys.{are_known, is_known, values_at}
-use Rattle.sig_text.proofs.Found.{and_false, and_true, begun, completed, ended, not_placed, place_in, placed_at, put_at, put_keeps, seen}
+use Rattle.sig_text.specs.Keys.{are_known, values_at}
+use Rattle.sig_text.proofs.Found.{and_false, and_true, begun, completed, ended, not_placed, placed_at, put_at, put_keeps, seen}
 use Rattle.sig_text.proofs.keys.found_in.Goals as goal
 
 pub loop-name-init : goal.loop-name-init
