@@ -6,3 +6,5 @@ pub mod Ends
 pub mod Worked
 pub mod First
 pub mod Answered
+pub mod Found
+pub mod PartKeys

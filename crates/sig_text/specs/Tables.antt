@@ -104,28 +104,28 @@ abbrev pub use_of : Members → Used
 use_of members = record { name = name_at Name members; block = name_at BlockKey members }
 
 -- the functional fault of a part: its weight, and its signals, which are required with it
-abbrev pub functional_breaches : Spot → Members → Option Data → List Refusal
-functional_breaches spot table None = []
-functional_breaches spot table (Some d) =
-    weight_breaches (at_key spot FunctionalKey) d ++ required_at names_breaches spot Signals table
+abbrev pub functional_breaches : Spot → Option Data → Option Data → List Refusal
+functional_breaches spot signals None = []
+functional_breaches spot signals (Some weight) =
+    weight_breaches (at_key spot FunctionalKey) weight ++ required_breaches names_breaches (at_key spot Signals) signals
 
-abbrev pub functional_of : Members → Option Data → Option Functional
-functional_of table None = None
-functional_of table (Some d) = Some (record { weight = number_of d; signals = names_at Signals table })
+abbrev pub functional_of : Option Data → Option Data → Option Functional
+functional_of signals None = None
+functional_of signals (Some weight) = Some (record { weight = number_of weight; signals = value_or_empty (list_of name_of) signals })
 
 -- a part
 abbrev pub part_breaches : Spot → Members → List Refusal
 part_breaches spot members =
     unknown_keys (part_keys (value_at FunctionalKey members)) (place_of spot) members
     ++ (required_at name_breaches spot Name members
-    ++ (functional_breaches spot members (value_at FunctionalKey members)
+    ++ (functional_breaches spot (value_at Signals members) (value_at FunctionalKey members)
     ++ (optional_at weight_breaches spot General members
     ++ optional_at names_breaches spot Stops members)))
 
 abbrev pub part_of : Members → Part
 part_of members = record {
   name = name_at Name members;
-  functional = functional_of members (value_at FunctionalKey members);
+  functional = functional_of (value_at Signals members) (value_at FunctionalKey members);
   general = option_map number_of (value_at General members);
   stops = names_at Stops members;
 }

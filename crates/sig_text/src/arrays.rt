@@ -1,17 +1,15 @@
 //! Arrays, read element by element: the first element with a breach ends the reading.
 
-ghost use Rattle.std.specs.Prelude.{◌≡◌, [], ◌++◌};
-ghost use Rattle.toml.specs.View.{view, table_view, items_view};
+ghost use Rattle.std.specs.Prelude.{◌≡◌, [], ◌++◌, option_map};
+ghost use Rattle.toml.specs.View.{view, items_view};
 ghost use Rattle.sig_types.specs.Spots.{at_key};
-ghost use Rattle.sig_text.specs.Keys.{value_at};
 ghost use Rattle.sig_types.specs.Refused.{Answers};
 ghost use Rattle.sig_text.specs.Values.{each_breaches, each_of, array_breaches, list_of, optional_breaches, value_or_empty};
 
-use crate::keys::member;
 use crate::values::{FromValue, refuse};
 use sig_types::{Code, Key, List, ModelFault, Spot};
 use std::alloc::Global;
-use toml::{Table, Value};
+use toml::Value;
 
 fn elements_in<T: FromValue>(
     alloc: Global,
@@ -47,17 +45,17 @@ impl<T: FromValue> FromValue for List<T> {
     }
 }
 
-/// The array at a key that may be absent, which stands for an empty one.
+/// The array that was found at a key; an absent one stands for an empty one.
 pub fn list_at<T: FromValue>(
     alloc: Global,
-    table: &Table,
+    found: Option<&Value>,
     spot: Spot,
     key: Key,
 ) -> Result<List<T>, ModelFault>
-    ensures { let found = value_at key (table_view table.now) in
-        Answers result (optional_breaches (array_breaches T.breaches) (at_key spot key) found) (value_or_empty (list_of T.stands_for) found) }
+    ensures { let there = option_map (λ x. view x.now) found.entry in
+        Answers result (optional_breaches (array_breaches T.breaches) (at_key spot key) there) (value_or_empty (list_of T.stands_for) there) }
 {
-    match member(table, key) {
+    match found {
         None => Ok(List::new(alloc)),
         Some(value) => List::read(alloc, value, spot.at(key)),
     }

@@ -2,8 +2,8 @@
 //!
 //! What is a document is toml's own definition. Which breaches its table has, in which order, and
 //! which model it stands for, are plain definitions over toml's data in `specs/`; every reader here
-//! answers the value exactly where there is no breach, and else the first of them. Reading takes
-//! time linear in the text, but for the look-up of a key in the table's own ordered map.
+//! answers the value exactly where there is no breach, and else the first of them. A table's entries
+//! are gone over once, so reading takes time linear in the text.
 #![tactic(auto)]
 
 mod arrays;

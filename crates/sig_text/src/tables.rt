@@ -3,18 +3,18 @@
 //! Each reader looks for an unknown key first and then reads key by key, in the order in which the
 //! breaches are to be found; `?` ends it at the first.
 
-ghost use Rattle.std.specs.Prelude.{◌≡◌, option_map};
+ghost use Rattle.std.specs.Prelude.{◌≡◌, [], option_map, OnOk, IfOk, IfErr};
 ghost use Rattle.toml.specs.View.{view, table_view};
 ghost use Rattle.sig_types.specs.declared.refusals.Kind.TheVariants.{Part as PartKind, Use as UseKind, Point as PointKind, Link as LinkKind};
 ghost use Rattle.sig_types.specs.declared.refusals.Key.TheVariants.{Functional as FunctionalKey};
-ghost use Rattle.sig_types.specs.Spots.{as_block, as_item, as_test};
-ghost use Rattle.sig_text.specs.Keys.{value_at, part_keys};
-ghost use Rattle.sig_types.specs.Refused.{Answers};
+ghost use Rattle.sig_types.specs.Spots.{as_block, as_item, as_test, place_of};
+ghost use Rattle.sig_text.specs.Keys.{faulty_part_keys, found_values, part_keys, unknown_keys, value_at, values_at};
+ghost use Rattle.sig_types.specs.Refused.{Answers, TellsFirst};
 ghost use Rattle.sig_text.specs.Values.{table_breaches, table_of};
 ghost use Rattle.sig_text.specs.Tables.{link_breaches, link_of, test_breaches, test_of, point_breaches, point_of, use_breaches, use_of, functional_breaches, functional_of, part_breaches, part_of, block_breaches, block_of, model_breaches, document_breaches, model_of};
 
 use crate::arrays::list_at;
-use crate::keys::{check_keys, member};
+use crate::keys::{Found, found_in, member, values_of};
 use crate::numbers::Version;
 use crate::values::{FromValue, optional, refuse, required};
 use sig_types::{
@@ -27,10 +27,10 @@ use toml::{Table, Value};
 fn link_in(alloc: Global, table: &Table, spot: Spot) -> Result<Link, ModelFault>
     ensures { Answers result (link_breaches spot (table_view table.now)) (link_of (table_view table.now)) }
 {
-    check_keys(table, &[Key::From, Key::To, Key::Modes], spot.place())?;
-    let from = required::<End>(alloc, table, spot, Key::From)?;
-    let to = required::<End>(alloc, table, spot, Key::To)?;
-    let modes = list_at::<Name>(alloc, table, spot, Key::Modes)?;
+    let found = values_of(table, &[Key::From, Key::To, Key::Modes], spot)?;
+    let from = required::<End>(alloc, found.at(0), spot, Key::From)?;
+    let to = required::<End>(alloc, found.at(1), spot, Key::To)?;
+    let modes = list_at::<Name>(alloc, found.at(2), spot, Key::Modes)?;
     Ok(Link { from, to, modes })
 }
 
@@ -51,11 +51,11 @@ fn test_in(alloc: Global, table: &Table, spot: Spot) -> Result<Test, ModelFault>
     ensures { Answers result (test_breaches spot (table_view table.now)) (test_of (table_view table.now)) }
 {
     let known = [Key::Name, Key::Cost, Key::Signals, Key::Mode];
-    check_keys(table, &known, spot.place())?;
-    let name = required::<Name>(alloc, table, spot, Key::Name)?;
-    let cost = required::<Cost>(alloc, table, spot, Key::Cost)?;
-    let signals = required::<List<Name>>(alloc, table, spot, Key::Signals)?;
-    let mode = optional::<Name>(alloc, table, spot, Key::Mode)?;
+    let found = values_of(table, &known, spot)?;
+    let name = required::<Name>(alloc, found.at(0), spot, Key::Name)?;
+    let cost = required::<Cost>(alloc, found.at(1), spot, Key::Cost)?;
+    let signals = required::<List<Name>>(alloc, found.at(2), spot, Key::Signals)?;
+    let mode = optional::<Name>(alloc, found.at(3), spot, Key::Mode)?;
     Ok(Test {
         name,
         cost,
@@ -80,9 +80,9 @@ impl FromValue for Test {
 fn point_in(alloc: Global, table: &Table, spot: Spot) -> Result<Point, ModelFault>
     ensures { Answers result (point_breaches spot (table_view table.now)) (point_of (table_view table.now)) }
 {
-    check_keys(table, &[Key::Name, Key::Test], spot.place())?;
-    let name = required::<Name>(alloc, table, spot, Key::Name)?;
-    let tests = list_at::<Test>(alloc, table, spot, Key::Test)?;
+    let found = values_of(table, &[Key::Name, Key::Test], spot)?;
+    let name = required::<Name>(alloc, found.at(0), spot, Key::Name)?;
+    let tests = list_at::<Test>(alloc, found.at(1), spot, Key::Test)?;
     Ok(Point { name, tests })
 }
 
@@ -102,9 +102,9 @@ impl FromValue for Point {
 fn use_in(alloc: Global, table: &Table, spot: Spot) -> Result<Used, ModelFault>
     ensures { Answers result (use_breaches spot (table_view table.now)) (use_of (table_view table.now)) }
 {
-    check_keys(table, &[Key::Name, Key::Block], spot.place())?;
-    let name = required::<Name>(alloc, table, spot, Key::Name)?;
-    let block = required::<Name>(alloc, table, spot, Key::Block)?;
+    let found = values_of(table, &[Key::Name, Key::Block], spot)?;
+    let name = required::<Name>(alloc, found.at(0), spot, Key::Name)?;
+    let block = required::<Name>(alloc, found.at(1), spot, Key::Block)?;
     Ok(Used { name, block })
 }
 
@@ -121,46 +121,57 @@ impl FromValue for Used {
     }
 }
 
-/// The keys that are known in a part: `signals` only where there is a functional fault.
-fn part_keys(functional: Option<&Value>) -> &'static [Key]
-    ensures { result.now ≡ part_keys (option_map (λ x. view x.now) functional.entry) }
+/// The functional fault of a part, where there is one.
+fn functional_in(
+    alloc: Global,
+    functional: Option<&Value>,
+    signals: Option<&Value>,
+    spot: Spot,
+) -> Result<Option<Functional>, ModelFault>
+    ensures { let weight = option_map (λ x. view x.now) functional.entry in
+        let names = option_map (λ x. view x.now) signals.entry in
+        Answers result (functional_breaches spot names weight) (functional_of names weight) }
 {
     match functional {
-        None => &[Key::Name, Key::Functional, Key::General, Key::Stops],
-        Some(_) => &[
-            Key::Name,
-            Key::Functional,
-            Key::Signals,
-            Key::General,
-            Key::Stops,
-        ],
-    }
-}
-
-/// The functional fault of a part, where there is one.
-fn functional_in(alloc: Global, table: &Table, spot: Spot) -> Result<Option<Functional>, ModelFault>
-    ensures { let functional = value_at FunctionalKey (table_view table.now) in
-        Answers result (functional_breaches spot (table_view table.now) functional) (functional_of (table_view table.now) functional) }
-{
-    match member(table, Key::Functional) {
         None => Ok(None),
         Some(value) => {
             let weight = Weight::read(alloc, value, spot.at(Key::Functional))?;
-            let signals = required::<List<Name>>(alloc, table, spot, Key::Signals)?;
+            let signals = required::<List<Name>>(alloc, signals, spot, Key::Signals)?;
             Ok(Some(Functional { weight, signals }))
         }
     }
 }
 
+/// The values at the keys of a part. The signals of a part are those of its functional fault, so where there is none they
+/// are no known key.
+#[tactic(auto, using(crate::proofs::PartKeys::part_known))]
+fn part_values<'a>(table: &'a Table, spot: Spot) -> Result<Found<'a>, ModelFault>
+    ensures known { OnOk result (unknown_keys (part_keys (value_at FunctionalKey (table_view table.now))) (place_of spot) (table_view table.now) ≡ []) }
+    ensures found { IfOk result (λ found. found_values found ≡ values_at faulty_part_keys (table_view table.now)) }
+    ensures refused { IfErr result (TellsFirst (unknown_keys (part_keys (value_at FunctionalKey (table_view table.now))) (place_of spot) (table_view table.now))) }
+{
+    let known = [
+        Key::Name,
+        Key::Functional,
+        Key::Signals,
+        Key::General,
+        Key::Stops,
+    ];
+    let found = found_in(table, &known);
+    if !found.no_other || (found.at(1).is_none() && found.at(2).is_some()) {
+        return refuse(Code::M04, spot.place());
+    }
+    Ok(found)
+}
+
 fn part_in(alloc: Global, table: &Table, spot: Spot) -> Result<Part, ModelFault>
     ensures { Answers result (part_breaches spot (table_view table.now)) (part_of (table_view table.now)) }
 {
-    let known = part_keys(member(table, Key::Functional));
-    check_keys(table, known, spot.place())?;
-    let name = required::<Name>(alloc, table, spot, Key::Name)?;
-    let functional = functional_in(alloc, table, spot)?;
-    let general = optional::<Weight>(alloc, table, spot, Key::General)?;
-    let stops = list_at::<Name>(alloc, table, spot, Key::Stops)?;
+    let found = part_values(table, spot)?;
+    let name = required::<Name>(alloc, found.at(0), spot, Key::Name)?;
+    let functional = functional_in(alloc, found.at(1), found.at(2), spot)?;
+    let general = optional::<Weight>(alloc, found.at(3), spot, Key::General)?;
+    let stops = list_at::<Name>(alloc, found.at(4), spot, Key::Stops)?;
     Ok(Part {
         name,
         functional,
@@ -194,14 +205,14 @@ fn block_in(alloc: Global, table: &Table, spot: Spot) -> Result<Block, ModelFaul
         Key::Point,
         Key::Link,
     ];
-    check_keys(table, &known, spot.place())?;
-    let name = required::<Name>(alloc, table, spot, Key::Name)?;
-    let ports = list_at::<Name>(alloc, table, spot, Key::Ports)?;
-    let switches = list_at::<Name>(alloc, table, spot, Key::Switches)?;
-    let parts = list_at::<Part>(alloc, table, spot, Key::Part)?;
-    let uses = list_at::<Used>(alloc, table, spot, Key::Use)?;
-    let points = list_at::<Point>(alloc, table, spot, Key::Point)?;
-    let links = list_at::<Link>(alloc, table, spot, Key::Link)?;
+    let found = values_of(table, &known, spot)?;
+    let name = required::<Name>(alloc, found.at(0), spot, Key::Name)?;
+    let ports = list_at::<Name>(alloc, found.at(1), spot, Key::Ports)?;
+    let switches = list_at::<Name>(alloc, found.at(2), spot, Key::Switches)?;
+    let parts = list_at::<Part>(alloc, found.at(3), spot, Key::Part)?;
+    let uses = list_at::<Used>(alloc, found.at(4), spot, Key::Use)?;
+    let points = list_at::<Point>(alloc, found.at(5), spot, Key::Point)?;
+    let links = list_at::<Link>(alloc, found.at(6), spot, Key::Link)?;
     Ok(Block {
         name,
         ports,
@@ -239,12 +250,15 @@ fn model_in(alloc: Global, table: &Table) -> Result<Model, ModelFault>
         Key::Block,
     ];
     let spot = Spot::document();
-    check_keys(table, &known, Place::Document)?;
-    let good = required::<Good>(alloc, table, spot, Key::Good)?;
-    let top = required::<Name>(alloc, table, spot, Key::Top)?;
-    let signals = list_at::<Name>(alloc, table, spot, Key::Signals)?;
-    let modes = list_at::<Name>(alloc, table, spot, Key::Modes)?;
-    let blocks = required::<List<Block>>(alloc, table, spot, Key::Block)?;
+    let found = found_in(table, &known);
+    if !found.no_other {
+        return refuse(Code::M04, Place::Document);
+    }
+    let good = required::<Good>(alloc, found.at(1), spot, Key::Good)?;
+    let top = required::<Name>(alloc, found.at(2), spot, Key::Top)?;
+    let signals = list_at::<Name>(alloc, found.at(3), spot, Key::Signals)?;
+    let modes = list_at::<Name>(alloc, found.at(4), spot, Key::Modes)?;
+    let blocks = required::<List<Block>>(alloc, found.at(5), spot, Key::Block)?;
     Ok(Model {
         good,
         top,
@@ -258,6 +272,7 @@ fn model_in(alloc: Global, table: &Table) -> Result<Model, ModelFault>
 pub fn document_in(alloc: Global, table: &Table) -> Result<Model, ModelFault>
     ensures { Answers result (document_breaches (table_view table.now)) (model_of (table_view table.now)) }
 {
-    let _version = required::<Version>(alloc, table, Spot::document(), Key::Version)?;
+    let version = member(table, Key::Version);
+    let _version = required::<Version>(alloc, version, Spot::document(), Key::Version)?;
     model_in(alloc, table)
 }

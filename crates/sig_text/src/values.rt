@@ -4,16 +4,14 @@
 //! members, so that one function serves a required key of any kind and one an optional key.
 
 ghost use Rattle.std.specs.Prelude.{◌≡◌, Err, option_map};
-ghost use Rattle.toml.specs.View.{view, table_view};
+ghost use Rattle.toml.specs.View.{view};
 ghost use Rattle.sig_types.specs.Spots.{at_key};
-ghost use Rattle.sig_text.specs.Keys.{value_at};
 ghost use Rattle.sig_types.specs.Refused.{Answers};
 ghost use Rattle.sig_text.specs.Values.{required_breaches, optional_breaches, value_or_empty};
 
-use crate::keys::member;
 use sig_types::{Code, Key, ModelFault, Place, Refusal, Spot};
 use std::alloc::Global;
-use toml::{Table, Value};
+use toml::Value;
 
 /// Refuses the text.
 pub fn refuse<T>(code: Code, place: Place) -> Result<T, ModelFault>
@@ -41,33 +39,33 @@ pub trait FromValue: Drop {
         ensures { Answers result (breaches at (view value.now)) (stands_for (view value.now)) };
 }
 
-/// The value at a key that has to be there.
+/// What was found at a key that has to be there.
 pub fn required<T: FromValue>(
     alloc: Global,
-    table: &Table,
+    found: Option<&Value>,
     spot: Spot,
     key: Key,
 ) -> Result<T, ModelFault>
-    ensures { let found = value_at key (table_view table.now) in
-        Answers result (required_breaches T.breaches (at_key spot key) found) (value_or_empty T.stands_for found) }
+    ensures { let there = option_map (λ x. view x.now) found.entry in
+        Answers result (required_breaches T.breaches (at_key spot key) there) (value_or_empty T.stands_for there) }
 {
-    match member(table, key) {
+    match found {
         None => refuse(Code::M03, spot.at(key).place()),
         Some(value) => T::read(alloc, value, spot.at(key)),
     }
 }
 
-/// The value at a key that may be absent.
+/// What was found at a key that may be absent.
 pub fn optional<T: FromValue>(
     alloc: Global,
-    table: &Table,
+    found: Option<&Value>,
     spot: Spot,
     key: Key,
 ) -> Result<Option<T>, ModelFault>
-    ensures { let found = value_at key (table_view table.now) in
-        Answers result (optional_breaches T.breaches (at_key spot key) found) (option_map T.stands_for found) }
+    ensures { let there = option_map (λ x. view x.now) found.entry in
+        Answers result (optional_breaches T.breaches (at_key spot key) there) (option_map T.stands_for there) }
 {
-    match member(table, key) {
+    match found {
         None => Ok(None),
         Some(value) => {
             let value = T::read(alloc, value, spot.at(key))?;

@@ -13,3 +13,8 @@ pub returns-in_err-modes : goal.returns-in_err-modes
 returns-in_err-modes c =
     let exit = err_from_is_err_and c.from_residual-in_err-modes.result c.from_residual-in_err-modes.ensures.1 in
     rw (exit.1, exit.2) (search (rules, told_after, told_before))
+
+pub returns-in_err-top : goal.returns-in_err-top
+returns-in_err-top c =
+    let exit = err_from_is_err_and c.from_residual-in_err-top.result c.from_residual-in_err-top.ensures.1 in
+    rw (exit.1, exit.2) (search (rules, told_after, told_before))

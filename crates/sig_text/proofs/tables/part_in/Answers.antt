@@ -8,3 +8,8 @@ pub returns-in_err-general : goal.returns-in_err-general
 returns-in_err-general c =
     let exit = err_from_is_err_and c.from_residual-in_err-general.result c.from_residual-in_err-general.ensures.1 in
     rw (exit.1, exit.2) (search (rules, told_after, told_before))
+
+pub returns-in_err-functional : goal.returns-in_err-functional
+returns-in_err-functional c =
+    let exit = err_from_is_err_and c.from_residual-in_err-functional.result c.from_residual-in_err-functional.ensures.1 in
+    rw (exit.1, exit.2) (search (rules, told_after, told_before))
