@@ -33,7 +33,7 @@ pub record AreReports (plan : Plan) (status other : Status) (text another : List
 abbrev pub AreOne : Plan → Status → Status → List ℕ → List ℕ → Type 0
 AreOne plan status other text another = ((status ≡ other) × (text ≡ another)) ⊎ AreReports plan status other text another
 
--- exactly one of Done, Bounded, ModelRefused, Rejected and Conflict is due: two answers that are due for the same bytes, plan,
+-- no two of Done, Bounded, ModelRefused, Rejected and Conflict are due: two answers that are due for the same bytes, plan,
 -- and certificate or log are one
 abbrev pub HasOneAnswer : Type 0
 HasOneAnswer = (plan : Plan) (held : List ℕ → Option (List ℕ)) (content text another : List ℕ) (status other : Status)

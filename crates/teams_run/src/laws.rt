@@ -19,8 +19,9 @@ pub fn one_system()
     one_matrix();
 }
 
-/// For the bytes of a model, a plan, and a certificate or a log one answer is due: exactly one of Done, Bounded, ModelRefused,
-/// Rejected and Conflict, with one text. Between two reports of strategies, optimal or bounded, the text tells which it is.
+/// For the bytes of a model, a plan, and a certificate or a log no two answers are due: whichever of Done, Bounded,
+/// ModelRefused, Rejected and Conflict is, the others are not, and its text is the only one. Which of two reports of
+/// strategies is optimal and which is bounded, their texts tell.
 pub fn one_answer()
     ensures { HasOneAnswer }
 {

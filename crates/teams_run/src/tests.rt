@@ -336,10 +336,22 @@ fn reasoned(alloc: Global, log: &[u8]) -> Result<(Status, Vec<u8>), AllocError> 
 fn logs(rt: HostRuntime) -> Result<(), Fail> {
     let alloc = rt.alloc();
     for (log, number, text) in [
-        ("pass s1/tp/v\nfail s3/tp/v\n", 0, "teams reason 1\nmode -\nfaults 3\ngood s1/amp.f\nsuspect s2/amp.f\nsuspect s3/amp.f\nend\n"),
-        ("pass s1/tp/v\nfail s3/tp/v\nfail s2/tp/v\n", 0, "teams reason 1\nmode -\nfaults 3\ngood s1/amp.f\nbad s2/amp.f\nunknown s3/amp.f\nend\n"),
+        (
+            "pass s1/tp/v\nfail s3/tp/v\n",
+            0,
+            "teams reason 1\nmode -\nfaults 3\ngood s1/amp.f\nsuspect s2/amp.f\nsuspect s3/amp.f\nend\n",
+        ),
+        (
+            "pass s1/tp/v\nfail s3/tp/v\nfail s2/tp/v\n",
+            0,
+            "teams reason 1\nmode -\nfaults 3\ngood s1/amp.f\nbad s2/amp.f\nunknown s3/amp.f\nend\n",
+        ),
         ("fail s1/tp/v\npass s3/tp/v\n", 10, "conflict s1/tp/v\n"),
-        ("", 0, "teams reason 1\nmode -\nfaults 3\nunknown s1/amp.f\nunknown s2/amp.f\nunknown s3/amp.f\nend\n"),
+        (
+            "",
+            0,
+            "teams reason 1\nmode -\nfaults 3\nunknown s1/amp.f\nunknown s2/amp.f\nunknown s3/amp.f\nend\n",
+        ),
         ("fail s1/tp/v", 7, "rejected line 1 L01\n"),
         ("fail s1/tp/v\nfail s4/tp/v\n", 7, "rejected line 2 L02\n"),
         ("fail s1/tp/v\npass s1/tp/v\n", 7, "rejected line 2 L03\n"),
