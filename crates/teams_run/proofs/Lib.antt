@@ -16,3 +16,4 @@ pub mod OneAccepted
 pub mod BadLaws
 pub mod OneReasoned
 pub mod ReasonLaws
+pub mod FileLaws

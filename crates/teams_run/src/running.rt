@@ -123,9 +123,9 @@ fn reason_due<D: Shelf>(
     requires log { IsSome plan.now.log }
     ensures due { IfOk result (λ due. IsDue plan.now (D.holds shelf.old) content.now due.status due.text.items) }
     ensures missing { IsErrOf result FetchFault.Missing → Rose (D.misses shelf.old) (D.misses shelf.new) }
-    ensures missing_held { IsErrOf result FetchFault.Missing → (refusals content.now plan.now.mode ≡ []) × HoldsNone (D.holds shelf.old) (log_name plan.now) }
+    ensures missing_held { IsErrOf result FetchFault.Missing → (plan.now.action ≡ Action.Reason) × (refusals content.now plan.now.mode ≡ []) × HoldsNone (D.holds shelf.old) (log_name plan.now) }
     ensures failed { IsErrOf result FetchFault.Failed → Rose (D.faults shelf.old) (D.faults shelf.new) }
-    ensures too_long { IsErrOf result FetchFault.TooLong → (refusals content.now plan.now.mode ≡ []) × HoldsLonger (D.holds shelf.old) (log_name plan.now) log_limit }
+    ensures too_long { IsErrOf result FetchFault.TooLong → (plan.now.action ≡ Action.Reason) × (refusals content.now plan.now.mode ≡ []) × HoldsLonger (D.holds shelf.old) (log_name plan.now) log_limit }
     ensures same { D.holds shelf.new ≡ D.holds shelf.old }
 {
     let matrix = match accepted_for(alloc, plan, content) {

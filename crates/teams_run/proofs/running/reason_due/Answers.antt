@@ -23,9 +23,9 @@ returns-in-Ok-reasoning_on-clause-due g c =
 pub returns-in_err-log-clause-missing_held : goal.returns-in_err-log-clause-missing_held
 returns-in_err-log-clause-missing_held g c = λ missing.
     let none : HoldsNone (g.D.Shelf.holds c.args.shelf.now) (log_name c.args.plan.now) = search rules in
-    ((c.in-Ok.ensures.text.1).accepted, none)
+    (c.requires.action, (c.in-Ok.ensures.text.1).accepted, none)
 
 pub returns-in_err-log-clause-too_long : goal.returns-in_err-log-clause-too_long
 returns-in_err-log-clause-too_long g c = λ long.
     let longer : HoldsLonger (g.D.Shelf.holds c.args.shelf.now) (log_name c.args.plan.now) log_limit = search rules in
-    ((c.in-Ok.ensures.text.1).accepted, longer)
+    (c.requires.action, (c.in-Ok.ensures.text.1).accepted, longer)
