@@ -1,0 +1,5 @@
+pub mod Zips
+pub mod Standing
+pub mod Few
+pub mod BackingLaws
+pub mod TurnLaws
