@@ -3,3 +3,4 @@ pub mod Standing
 pub mod Few
 pub mod BackingLaws
 pub mod TurnLaws
+pub mod RunLaws

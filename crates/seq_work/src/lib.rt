@@ -12,6 +12,8 @@ mod entering;
 mod local;
 mod shared;
 mod turn;
+mod work;
 
 pub use local::Local;
 pub use shared::Shared;
+pub use work::{WorkEnd, work_at};
