@@ -4,3 +4,4 @@ pub mod Few
 pub mod BackingLaws
 pub mod TurnLaws
 pub mod RunLaws
+pub mod Halves

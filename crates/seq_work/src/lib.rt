@@ -9,11 +9,13 @@
 
 mod backing;
 mod entering;
+mod fanning;
 mod local;
 mod shared;
 mod turn;
 mod work;
 
+pub use fanning::fan;
 pub use local::Local;
 pub use shared::Shared;
 pub use work::{WorkEnd, work_at};

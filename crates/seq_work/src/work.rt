@@ -10,6 +10,7 @@ ghost use Rattle.seq_words.specs.Knowledge.{Covers};
 ghost use Rattle.seq_words.specs.Seats.{IsOf};
 ghost use Rattle.seq_work.specs.Works.{Ready};
 ghost use Rattle.seq_work.specs.Ends.{KnowsRoot, Worked};
+ghost use Rattle.seq_work.specs.Fans.{MayBegin};
 
 use crate::backing::back_up;
 use crate::entering::list;
@@ -120,9 +121,7 @@ pub fn work_at<N: Naming + Send + Sync, R: Wait, G: Gate + Sync>(
     local: &mut Local,
     gate: &G,
 ) -> WorkEnd
-    requires ready { Ready shared.now.inst N.words seat.old local.old }
-    requires empty { local.old.graph.rows.items ≡ [] }
-    requires root { KnowsRoot (problem_of shared.now.inst) seat.old.view }
+    requires { MayBegin shared.now.inst N.words seat.old local.old }
     ensures of { IsOf N.words seat.new }
     ensures covers { Covers seat.new.view seat.old.view }
     ensures worked { Worked shared.now.inst N.words seat.new result }
