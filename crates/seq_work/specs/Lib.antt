@@ -1,0 +1,4 @@
+pub mod Works
+pub mod Turns
+pub mod Ends
+pub mod Fans

@@ -1,0 +1,22 @@
+-- What one turn of a worker does.
+use Rattle.std.specs.Prelude.{◌≡◌, ◌≢◌, ℕ, ◌<◌, Option, Some, None}
+use Rattle.seq_inst.specs.declared.instance.Instance.{Instance}
+use Rattle.seq_inst.specs.declared.group.Group.{Group}
+use Rattle.seq_inst.specs.Members.{members}
+use Rattle.seq_inst.specs.Instances.{problem_of}
+use Rattle.seq_theory.specs.Graph.{IsReal}
+use Rattle.seq_graph.specs.Walks.{HasMoved}
+use Rattle.seq_words.specs.Knowledge.{IsKnown, group_at}
+use Rattle.seq_words.specs.Seats.{Wording, Sitting}
+use Rattle.seq_work.specs.declared.local.Local.{Local}
+
+-- all places are known with their groups, and none of these is the group, which is real
+pub record IsFullFor (inst : Instance) (words : Wording) (seat : Sitting) (missed : Group) : Type 0 where
+  pub real : IsReal (problem_of inst) (members missed)
+  pub known : (place : ℕ) → place < words.limit → IsKnown place seat.view
+  pub other : (place : ℕ) → place < words.limit → group_at place seat.view ≢ members missed
+
+-- the worker has entered a group or closed one, so less is left to do; or a group found no place
+abbrev pub HasWorked : Instance → Wording → Sitting → Local → Local → Option Group → Type 0
+HasWorked inst words seat old new None = HasMoved (problem_of inst) words.limit old.graph.rows.items new.graph.rows.items
+HasWorked inst words seat old new (Some missed) = IsFullFor inst words seat missed
