@@ -1,6 +1,6 @@
 -- What a worker's turn rests on. Its rows stand in the view of its seat, so what they allow the view allows; what the words answer is
 -- true of the group; and after each step of the seat, and each that the graph hears, the worker is ready still.
-use Rattle.std.proofs.Common.{◌≡◌, ℕ, ◌<◌, ◌≤◌, max, min, List, [], ◌∷◌, ◌++◌, length, get_or, set, refl, sym, ap, ◌∙◌, subst, arith, All}
+use Rattle.std.proofs.Common.{◌≡◌, ℕ, ◌<◌, ◌≤◌, List, [], ◌∷◌, ◌++◌, length, set, sym, ◌∙◌, subst, arith, All}
 use Rattle.std.specs.List.{AllZip, filter_map}
 use Rattle.std.specs.Prelude.{slice_index}
 use Rattle.seq_theory.specs.Problem.{splitting}
@@ -15,7 +15,7 @@ use Rattle.seq_inst.specs.declared.outcome.Row.{Row}
 use Rattle.seq_inst.specs.Members.{members}
 use Rattle.seq_inst.specs.Instances.{problem_of}
 use Rattle.seq_core.specs.RowsOf.{rows_of as rows_from}
-use Rattle.seq_graph.specs.Known.{IsKnown as IsGraph, AreBounds, Allow, no_row, row_at, group_at as row_group, heard}
+use Rattle.seq_graph.specs.Known.{IsKnown as IsGraph, no_row, row_at, group_at as row_group, heard}
 use Rattle.seq_words.specs.declared.view.Told.{Told}
 use Rattle.seq_words.specs.declared.view.View.{View}
 use Rattle.seq_words.specs.Knowledge.{told_of, problem_in, known, known_rows, IsKnown, AreAlone, Covers, MayRaise, MayCap, IsLow, IsUp, group_at, low_seen, up_seen}

@@ -1,12 +1,13 @@
 -- Lists of seats in two halves: what holds of both holds of each, and of both again.
-use Rattle.std.proofs.Common.{◌≡◌, ℕ, zero, suc, ◌<◌, List, [], ◌∷◌, ◌++◌, length, get_or, set, Some, Option, All, arith, refl, sym, ap, subst, length-append}
+use Rattle.std.proofs.Common.{◌≡◌, ℕ, zero, suc, ◌<◌, List, [], ◌∷◌, ◌++◌, length, get_or, set, Some, Option, arith, refl, ap, subst, length-append}
 use Rattle.std.proofs.lemmas.List.Elements.{All-append}
 use Rattle.std.specs.List.{AllZip}
 use Rattle.seq_inst.specs.declared.instance.Instance.{Instance}
+use Rattle.seq_inst.specs.Instances.{problem_of}
 use Rattle.seq_words.specs.Seats.{IsOf, Wording, Sitting}
 use Rattle.seq_work.specs.declared.local.Local.{Local}
 use Rattle.seq_work.specs.declared.work.WorkEnd.{WorkEnd}
-use Rattle.seq_work.specs.Ends.{Worked}
+use Rattle.seq_work.specs.Ends.{KnowsRoot, Worked}
 use Rattle.seq_work.specs.Fans.{MayBegin, WorkedAt, AreReady, AreDone}
 
 zip-front : {A B : Type 0} (R : A → B → Type 0) (xs xs' : List A) (ys ys' : List B) → length xs ≡ length ys → AllZip R (xs ++ xs') (ys ++ ys') → AllZip R xs ys
@@ -58,14 +59,9 @@ one-of : (inst : Instance) (w : Wording) (y : Sitting) → IsOf w y → (k : ℕ
 one-of inst w y f zero d h = f
 one-of inst w y f (suc k) d h = absurd (omega arith)
 
-pub done-one : (inst : Instance) (w : Wording) (seats : List Sitting) (ends : List (Option WorkEnd)) (y : Sitting) (end : WorkEnd) → length seats ≡ 1 → length seats ≡ length ends → IsOf w y → Worked inst w y end → AreDone inst w (set seats 0 y) (set ends 0 (Some end))
-done-one inst w [] ends y end e f o z = absurd (omega arith)
-done-one inst w (x ∷ []) [] y end e f o z = absurd (omega arith)
-done-one inst w (x ∷ []) (d ∷ []) y end e f o z = record { of = one-of inst w y o; ended = ((z, refl), tt) }
-done-one inst w (x ∷ []) (d ∷ d' ∷ ds) y end e f o z = absurd (omega arith)
-done-one inst w (x ∷ x' ∷ xs) ends y end e f o z = absurd (omega arith)
-
-pub ready-first : (inst : Instance) (w : Wording) (seats : List Sitting) (locals : List Local) (ends : List (Option WorkEnd)) (x : Sitting) (l : Local) → AreReady inst w seats locals ends → length seats ≡ 1 → x ≡ get_or seats 0 x → l ≡ get_or locals 0 l → MayBegin inst w x l
-ready-first inst w [] locals ends x l r e p q = absurd (omega arith)
-ready-first inst w (x' ∷ xs) [] ends x l r e p q = let z = r.as_locals in absurd (omega arith)
-ready-first inst w (x' ∷ xs) (l' ∷ ls) ends x l r e p q = subst (λ (u : Sitting). MayBegin inst w u l) (sym p) (subst (MayBegin inst w x') (sym q) r.ready.0)
+pub done-one : (inst : Instance) (w : Wording) (seats : List Sitting) (ends : List (Option WorkEnd)) (y : Sitting) (end : WorkEnd) → length seats ≡ 1 → length seats ≡ length ends → IsOf w y → KnowsRoot (problem_of inst) y.view → Worked inst w y end → AreDone inst w (set seats 0 y) (set ends 0 (Some end))
+done-one inst w [] ends y end e f o r z = absurd (omega arith)
+done-one inst w (x ∷ []) [] y end e f o r z = absurd (omega arith)
+done-one inst w (x ∷ []) (d ∷ []) y end e f o r z = record { of = one-of inst w y o; ended = (record { root = r; cause = z; some = refl }, tt) }
+done-one inst w (x ∷ []) (d ∷ d' ∷ ds) y end e f o r z = absurd (omega arith)
+done-one inst w (x ∷ x' ∷ xs) ends y end e f o r z = absurd (omega arith)

@@ -4,4 +4,7 @@ pub mod Few
 pub mod BackingLaws
 pub mod TurnLaws
 pub mod RunLaws
+pub mod Roots
 pub mod Halves
+pub mod FreshLaws
+pub mod EndLaws

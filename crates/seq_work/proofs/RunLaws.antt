@@ -1,16 +1,15 @@
 -- A worker's run: what it knew it knows still; the group of all classes keeps the first row; and what is left to do is bounded from the
 -- start.
-use Rattle.std.proofs.Common.{◌≡◌, ℕ, zero, suc, ◌+◌, ◌-◌, ◌*◌, ◌<◌, ◌≤◌, List, [], ◌∷◌, ◌++◌, length, get_or, refl, sym, ap, ◌∙◌, subst, arith, inl, inr}
-use Rattle.std.specs.Prelude.{nat_eq, cond, slice_index}
+use Rattle.std.proofs.Common.{◌≡◌, ℕ, ◌≤◌, List, [], ◌∷◌, length, get_or, refl, ap, ◌∙◌, arith, inl, inr}
+use Rattle.std.specs.Prelude.{nat_eq, slice_index}
 use Rattle.std.proofs.lemmas.Bool.{cases_Bool}
 use Rattle.std.proofs.lemmas.List.{get_or_read}
-use Rattle.seq_theory.specs.Problem.{Problem, all_classes, is_end}
-use Rattle.seq_inst.specs.declared.group.Group.{Group}
+use Rattle.seq_theory.specs.Problem.{all_classes}
 use Rattle.seq_inst.specs.declared.instance.Instance.{Instance}
 use Rattle.seq_inst.specs.declared.outcome.Row.{Row}
 use Rattle.seq_inst.specs.Members.{members}
 use Rattle.seq_inst.specs.Instances.{problem_of}
-use Rattle.seq_graph.specs.Known.{Narrows, no_row, row_at, group_at}
+use Rattle.seq_graph.specs.Known.{Narrows, no_row, group_at}
 use Rattle.seq_graph.specs.Walks.{open_rows, left}
 use Rattle.seq_words.specs.declared.view.View.{View}
 use Rattle.seq_words.specs.Knowledge.{Covers}

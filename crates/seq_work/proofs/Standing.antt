@@ -1,7 +1,7 @@
 -- A worker's rows beside its seat's view. As the view only ever knows more, a row that stands goes on standing; and as each row stands,
 -- the view's rows are no worse than the worker's, so what these allow the view allows.
 use Rattle.std.proofs.Common.{◌≡◌, inl, inr, ℕ, zero, suc, ◌<◌, ◌≤◌, Bool, true, false, ◌&&◌, cond, List, [], ◌∷◌, length, get_or, set, refl, sym, ap, ◌∙◌, subst, arith, true≢false, All, eqb}
-use Rattle.std.proofs.lemmas.Bool.{cases_Bool, and_from, eq-eqb}
+use Rattle.std.proofs.lemmas.Bool.{and_from, eq-eqb}
 use Rattle.std.proofs.lemmas.List.{get_or_past, get_or-set_same}
 use mathlib.Core.Logic.{dite}
 use native.Mathlib.Decide.{dec_le}
@@ -9,12 +9,11 @@ use Rattle.std.specs.List.{AllZip}
 use Rattle.seq_theory.specs.Rows.{groups_of, IsRow, AreDistinct, no_value}
 use Rattle.seq_theory.specs.Rows.{Row as TheoryRow}
 use Rattle.seq_inst.specs.declared.outcome.Row.{Row}
-use Rattle.seq_inst.specs.Members.{members}
 use Rattle.seq_core.specs.Words.{classes_of}
 use Rattle.seq_core.specs.RowsOf.{row_of as row_from, rows_of as rows_from}
 use Rattle.seq_words.specs.declared.view.Known.{Known}
 use Rattle.seq_words.specs.declared.view.View.{View}
-use Rattle.seq_words.specs.Knowledge.{unknown, known, IsThere, IsKnown, AreAlone, Covers, group_at, low_seen, up_seen, is_whole, seen_row, known_rows}
+use Rattle.seq_words.specs.Knowledge.{unknown, known, IsThere, AreAlone, Covers, low_seen, up_seen, is_whole, seen_row, known_rows}
 use Rattle.seq_words.specs.Plays.{hears_low, hears_up}
 use Rattle.seq_words.specs.Laws.{IsBettered, AreBettered}
 use Rattle.seq_work.specs.Works.{StandsAt}

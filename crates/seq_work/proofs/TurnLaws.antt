@@ -1,5 +1,5 @@
 -- Rows before and after a turn.
-use Rattle.std.proofs.Common.{◌≡◌, ℕ, suc, ◌<◌, List, [], ◌∷◌, ◌++◌, length, length-append, refl, ap, arith, Option, Some, None}
+use Rattle.std.proofs.Common.{◌≡◌, suc, ◌<◌, List, [], ◌∷◌, ◌++◌, length, length-append, refl, ap, arith, Option, Some, None}
 use Rattle.seq_inst.specs.declared.group.Group.{Group}
 use Rattle.seq_inst.specs.declared.instance.Instance.{Instance}
 use Rattle.seq_inst.specs.declared.outcome.Row.{Row}

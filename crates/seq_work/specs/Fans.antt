@@ -1,5 +1,5 @@
 -- Seats with what their workers keep, before and after they work.
-use Rattle.std.specs.Prelude.{◌≡◌, ℕ, List, [], length, All, Option, IfSome, IsSome}
+use Rattle.std.specs.Prelude.{◌≡◌, List, [], length, All, Option, IfSome, IsSome}
 use Rattle.std.specs.List.{AllZip}
 use Rattle.seq_inst.specs.declared.instance.Instance.{Instance}
 use Rattle.seq_inst.specs.Instances.{problem_of}
@@ -15,9 +15,11 @@ pub record MayBegin (inst : Instance) (words : Wording) (seat : Sitting) (l : Lo
   pub empty : l.graph.rows.items ≡ []
   pub root : KnowsRoot (problem_of inst) seat.view
 
--- a seat whose worker has ended
-abbrev pub WorkedAt : Instance → Wording → Sitting → Option WorkEnd → Type 0
-WorkedAt inst words seat end = IfSome end (Worked inst words seat) × IsSome end
+-- a seat whose worker has ended: it knows the group of all classes still, and the end has its cause
+pub record WorkedAt (inst : Instance) (words : Wording) (seat : Sitting) (end : Option WorkEnd) : Type 0 where
+  pub root : KnowsRoot (problem_of inst) seat.view
+  pub cause : IfSome end (Worked inst words seat)
+  pub some : IsSome end
 
 -- seats, what their workers keep, and room for their ends
 pub record AreReady (inst : Instance) (words : Wording) (seats : List Sitting) (locals : List Local) (ends : List (Option WorkEnd)) : Type 0 where

@@ -2,3 +2,5 @@ pub mod Works
 pub mod Turns
 pub mod Ends
 pub mod Fans
+pub mod Prepares
+pub mod Searches

@@ -124,6 +124,7 @@ pub fn work_at<N: Naming + Send + Sync, R: Wait, G: Gate + Sync>(
     requires { MayBegin shared.now.inst N.words seat.old local.old }
     ensures of { IsOf N.words seat.new }
     ensures covers { Covers seat.new.view seat.old.view }
+    ensures root { KnowsRoot (problem_of shared.now.inst) seat.new.view }
     ensures worked { Worked shared.now.inst N.words seat.new result }
 {
     match run(rt, alloc, shared, seat, local, gate) {

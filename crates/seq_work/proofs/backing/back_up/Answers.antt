@@ -1,15 +1,14 @@
-use Rattle.std.proofs.Common.{◌≡◌, ◌∙◌, length, set, refl, sym, ap, subst, arith}
+use Rattle.std.proofs.Common.{◌≡◌, ◌∙◌, set, refl, sym, ap, subst, arith}
 use Rattle.std.specs.Prelude.{slice_index}
 use Rattle.std.proofs.lemmas.List.{get_or_read}
 use Rattle.seq_theory.specs.Tree.{IsLeast}
-use Rattle.seq_inst.specs.declared.outcome.Row.{Row}
 use Rattle.seq_inst.specs.Members.{members}
 use Rattle.seq_inst.specs.Instances.{problem_of}
 use Rattle.seq_graph.specs.Known.{heard, row_at, group_at as row_group}
 use Rattle.seq_words.specs.Knowledge.{AreAlone, low_seen, up_seen}
 use Rattle.seq_words.specs.Seats.{Sitting}
 use Rattle.seq_work.specs.declared.local.Local.{Local}
-use Rattle.seq_work.specs.Works.{StandsAt, Ready}
+use Rattle.seq_work.specs.Works.{StandsAt}
 use Rattle.seq_work.proofs.Zips.{zip-length}
 use Rattle.seq_work.proofs.Standing.{alone-low, alone-up, low-heard, up-heard}
 use Rattle.seq_work.proofs.BackingLaws.{low-true, up-true, told-is, stands, may-raise, may-cap, seat-stepped, graph-heard}

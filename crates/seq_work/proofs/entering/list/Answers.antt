@@ -1,4 +1,4 @@
-use Rattle.std.proofs.Common.{◌≡◌, ◌<◌, ◌≤◌, ◌∙◌, ◌++◌, ◌∷◌, [], length, length-append, get_or, refl, sym, ap, subst, arith, List, ℕ}
+use Rattle.std.proofs.Common.{◌≡◌, ◌∙◌, ◌++◌, ◌∷◌, [], length, length-append, get_or, sym, ap, subst, arith, List, ℕ}
 use Rattle.std.proofs.Math.Seq.{get_or-append_seam}
 use Rattle.std.proofs.lemmas.List.{get_or_read}
 use Rattle.seq_theory.specs.Greedy.{greedy_cost}
@@ -12,7 +12,7 @@ use Rattle.seq_words.specs.Seats.{Sitting}
 use Rattle.seq_work.specs.declared.local.Local.{Local}
 use Rattle.seq_work.proofs.Few.{few-rows}
 use Rattle.seq_work.proofs.Standing.{alone-up, up-heard}
-use Rattle.seq_work.proofs.BackingLaws.{may-cap-greedy, seat-stepped, graph-listed}
+use Rattle.seq_work.proofs.BackingLaws.{seat-stepped, graph-listed}
 use Rattle.seq_work.proofs.entering.list.Goals as goal
 
 pub add-requires-clause-room : goal.add-requires-clause-room

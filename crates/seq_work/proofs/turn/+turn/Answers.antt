@@ -1,4 +1,4 @@
-use Rattle.std.proofs.Common.{◌≡◌, ◌<◌, ◌∙◌, List, length, refl, sym, ap, subst, arith}
+use Rattle.std.proofs.Common.{List, length, refl, sym, ap, subst, arith}
 use Rattle.seq_theory.specs.Greedy.{greedy_cost}
 use Rattle.seq_inst.specs.declared.outcome.Row.{Row}
 use Rattle.seq_inst.specs.Members.{members}
@@ -11,7 +11,7 @@ use Rattle.seq_work.specs.declared.local.Local.{Local}
 use Rattle.seq_work.specs.Works.{Ready}
 use Rattle.seq_work.proofs.Few.{most-rows}
 use Rattle.seq_work.proofs.BackingLaws.{graph-same, seat-stepped}
-use Rattle.seq_work.proofs.TurnLaws.{length-Narrows, longer, worked-none}
+use Rattle.seq_work.proofs.TurnLaws.{longer, worked-none}
 use Rattle.seq_work.proofs.turn.+turn.Goals as goal
 
 pub returns-in-Full-clause-ready : goal.returns-in-Full-clause-ready

@@ -1,6 +1,6 @@
 use Rattle.std.proofs.Common.{◌≡◌, ◌∙◌, ◌++◌, ◌∷◌, [], List, length, refl, sym, ap, subst, arith}
 use Rattle.std.specs.Prelude.{false}
-use Rattle.seq_theory.specs.Problem.{all_classes, is_end}
+use Rattle.seq_theory.specs.Problem.{is_end}
 use Rattle.seq_theory.specs.Graph.{is_entered, IsWanted, root}
 use Rattle.seq_theory.specs.Greedy.{greedy_cost}
 use Rattle.seq_theory.specs.Rows.{groups_of}
@@ -9,7 +9,7 @@ use Rattle.seq_inst.specs.Members.{members}
 use Rattle.seq_inst.specs.Instances.{problem_of}
 use Rattle.seq_core.specs.RowsOf.{rows_of as rows_from}
 use Rattle.seq_graph.specs.Known.{Narrows}
-use Rattle.seq_work.proofs.TurnLaws.{length-Narrows, longer}
+use Rattle.seq_work.proofs.TurnLaws.{longer}
 use Rattle.seq_work.proofs.RunLaws.{covers-on, first-group}
 use Rattle.seq_work.proofs.work.begin.Goals as goal
 

@@ -1,8 +1,7 @@
-use Rattle.std.proofs.Common.{◌≡◌, ◌∙◌, sym, ap, subst, inl}
-use Rattle.std.specs.Prelude.{true, false}
+use Rattle.std.proofs.Common.{◌∙◌, sym, ap, inl}
 use Rattle.seq_theory.specs.Problem.{is_end}
 use Rattle.seq_inst.specs.Instances.{problem_of}
-use Rattle.seq_work.proofs.RunLaws.{covers-itself, covers-on}
+use Rattle.seq_work.proofs.RunLaws.{covers-itself}
 use Rattle.seq_work.proofs.work.run.Goals as goal
 
 pub returns-then-is_leaf-clause-worked : goal.returns-then-is_leaf-clause-worked

@@ -1,4 +1,4 @@
-use Rattle.std.proofs.Common.{◌≡◌, ◌∙◌, refl, sym, ap, subst, arith, inr}
+use Rattle.std.proofs.Common.{◌∙◌, ap, subst, arith, inr}
 use Rattle.seq_inst.specs.Members.{members}
 use Rattle.seq_work.specs.Turns.{HasWorked}
 use Rattle.seq_work.proofs.Few.{most-rows}
