@@ -10,7 +10,7 @@ use Rattle.seq_theory.specs.Graph.{same_group, is_entered, low, val, strat, IsRe
 use Rattle.seq_theory.specs.Rows.{Row as PlainRow, IsRow, AreDistinct, IsSound}
 use Rattle.seq_theory.proofs.LeastLaws.{count_up-IsIn}
 use Rattle.seq_theory.specs.Laws.{EnteredHolds}
-use Rattle.seq_theory.proofs.RowLaws.{same_group-refl, or-left, or-right, wanted-within}
+use Rattle.seq_theory.proofs.RowLaws.{same_group-refl, or-left, or-right}
 use Rattle.seq_theory.proofs.ValLaws.{val-end, val-entered, least-le-val}
 use Rattle.seq_theory.proofs.LowLaws.{low-le-least}
 use Rattle.seq_theory.proofs.StratLaws.{strat-holds}
@@ -28,9 +28,8 @@ use Rattle.seq_theory.proofs.BelowLaws.{length-count_up}
 use Rattle.seq_theory.proofs.ShapeLaws.{leaves-le, height-lt-leaves}
 use Rattle.seq_finish.proofs.StratLaws.{the-value, strat-splitting}
 use Rattle.seq_core.specs.RowsOf.{row_of as row_from, rows_of as rows_from}
-use Rattle.seq_core.specs.Settled.{groups_in, value_or, AreGroups, settled_row, settled_rows}
+use Rattle.seq_core.specs.Settled.{groups_in, value_or, settled_row, settled_rows}
 use Rattle.seq_core.specs.Entered.{IsFull, MayStop}
-use Rattle.seq_graph.specs.Listed.{listed}
 use Rattle.seq_finish.specs.Outcomes.{AreEntered, IsSettled, IsRightOutcome}
 use Rattle.seq_finish.specs.Laws.{OutcomesHold}
 
@@ -74,48 +73,17 @@ row-entered [] k d lt = absurd (let bad : ⊥ = omega arith in bad)
 row-entered (r ∷ rest) zero d lt = or-left _ _ (same_group-refl (members r.group))
 row-entered (r ∷ rest) (suc k) d lt = or-right (same_group (members (slice_index_or rest k d).group) (members r.group)) _ (row-entered rest k d (omega arith))
 
+pub length-rows : (rows : List Row) → length (rows_from rows) ≡ length rows
+length-rows [] = refl
+length-rows (r ∷ rest) = ap suc (length-rows rest)
+
 module _ (p : Problem) where
   pub rows-real : (limit : ℕ) (rows : List Row) → IsSound p limit (rows_from rows) → All (λ r. IsReal p (members r.group)) rows
   rows-real limit rows s k d lt = s.real _ (row-among rows k d lt)
 
-  pub rows-groups : (limit : ℕ) (rows : List Row) → IsSound p limit (rows_from rows) → AreGroups p rows
-  rows-groups limit rows s = record {
-    distinct = s.distinct;
-    within = λ r i. wanted-within p r.group (s.real r i).wanted;
-    goals = λ r i. (s.real r i).goals;
-  }
-
-  length-rows : (rows : List Row) → length (rows_from rows) ≡ length rows
-  length-rows [] = refl
-  length-rows (r ∷ rest) = ap suc (length-rows rest)
-
-  pub rows-few : (limit : ℕ) (rows : List Row) → IsSound p limit (rows_from rows) → length rows ≤ limit
-  rows-few limit rows s = let few = s.few in let l = length-rows rows in omega arith
-
-  -- sound rows are so under each limit that is not below their number
-  pub sound-within : (limit : ℕ) (rows : List Row) → IsSound p (length rows) (rows_from rows) → length rows ≤ limit → IsSound p limit (rows_from rows)
-  sound-within limit rows s le = let few = s.few in record { few = omega arith; distinct = s.distinct; real = s.real; lows = s.lows; ups = s.ups }
-
-  -- and under their number
+  -- sound rows are so under their number
   pub sound-long : (limit : ℕ) (rows : List Row) → IsSound p limit (rows_from rows) → IsSound p (length rows) (rows_from rows)
   sound-long limit rows s = record { few = (let l = length-rows rows in omega arith); distinct = s.distinct; real = s.real; lows = s.lows; ups = s.ups }
-
-  -- ---- rows that are listed afresh ----
-
-  pub listed-entered : (rows : List Row) → groups_in (listed p rows) ≡ groups_in rows
-  listed-entered [] = refl
-  listed-entered (r ∷ rest) = ap (λ l. members r.group ∷ l) (listed-entered rest)
-
-  pub listed-length : (rows : List Row) → length (listed p rows) ≡ length rows
-  listed-length [] = refl
-  listed-length (r ∷ rest) = ap suc (listed-length rest)
-
-  settled-listed : (other : List (List ℕ)) (rows : List Row) → map (settled_row p other) (listed p rows) ≡ map (settled_row p other) rows
-  settled-listed other [] = refl
-  settled-listed other (r ∷ rest) = ap (λ l. settled_row p other r ∷ l) (settled-listed other rest)
-
-  pub listed-settled : (rows : List Row) → settled_rows p (listed p rows) ≡ settled_rows p rows
-  listed-settled rows = ap (λ g. map (settled_row p g) (listed p rows)) (listed-entered rows) ∙ settled-listed (groups_in rows) rows
 
   -- ---- settled rows ----
 

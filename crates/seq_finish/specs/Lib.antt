@@ -1,2 +1,3 @@
 pub mod Outcomes
+pub mod Joining
 pub mod Laws

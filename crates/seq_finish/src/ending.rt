@@ -11,10 +11,12 @@ ghost use Rattle.seq_core.specs.RowsOf.{rows_of as rows_from};
 ghost use Rattle.seq_core.specs.Settled.{groups_in, settled_rows};
 ghost use Rattle.seq_core.specs.Entered.{MayStop};
 ghost use Rattle.seq_graph.specs.Numbered.{AreNumbersFor};
+ghost use Rattle.seq_graph.specs.Behind.{AreBehind};
 ghost use Rattle.seq_graph.specs.Known.{IsGraphOf};
 ghost use Rattle.seq_finish.specs.Outcomes.{AreEntered, IsRightOutcome};
 ghost use Rattle.seq_finish.specs.Laws.{Stands};
 
+use crate::joining::{join, settled_by};
 use crate::laws::outcomes_hold;
 use crate::places::{bounds_of, index_of};
 use crate::strategy::strategy_of;
@@ -66,8 +68,40 @@ pub fn finish(
     ensures leaves { IfOk result (λ o. leaf_count (tree_of o.strategy) ≤ vec_len inst.now.weights) }
     ensures short { IfOk result (λ o. height (tree_of o.strategy) ≤ 512) }
 {
-    let graph = Graph::of_rows(alloc, inst, rows.as_slice())?;
-    finish_graph(alloc, inst, limit, graph, missed)
+    let graph = Graph::new(alloc, inst)?;
+    finish_with(alloc, inst, limit, graph, rows, missed)
+}
+
+/// What `finish` makes of these rows, made from a graph that is behind them, as each worker's is behind what
+/// all workers found. What the graph has is not worked out anew: its groups' tests and greedy's costs. So the
+/// cost is that of listing the groups that it has not, and of settling.
+pub fn finish_with(
+    alloc: Global,
+    inst: &Instance,
+    limit: u32,
+    mut graph: Graph,
+    rows: Vec<Row>,
+    missed: Option<Group>,
+) -> Result<Outcome, AllocError>
+    requires known { IsGraphOf inst.now graph }
+    requires behind { AreBehind rows.items graph.rows.items }
+    requires sound { IsSound (problem_of inst.now) limit (rows_from rows.items) }
+    requires root { is_end (problem_of inst.now) (all_classes (problem_of inst.now)) ≡ false → is_entered (groups_in rows.items) (all_classes (problem_of inst.now)) ≡ true }
+    requires stopped { MayStop (problem_of inst.now) limit (groups_in rows.items) missed }
+    ensures right { IfOk result (IsRightOutcome (problem_of inst.now) limit) }
+    ensures rows { IfOk result (λ o. o.rows.items ≡ settled_rows (problem_of inst.now) rows.items) }
+    ensures missed { IfOk result (λ o. o.verdict ≡ Verdict.Bounded → o.missed ≡ missed) }
+    ensures stands { IfOk result (Stands (problem_of inst.now)) }
+    ensures proper { IfOk result (λ o. o.low ≤ o.cost) }
+    ensures there { IfOk result (λ o. AsksOnly (problem_of inst.now).tests (tree_of o.strategy)) }
+    ensures splitting { IfOk result (λ o. AsksSplitting (problem_of inst.now) (tree_of o.strategy) (all_classes (problem_of inst.now))) }
+    ensures leaves { IfOk result (λ o. leaf_count (tree_of o.strategy) ≤ vec_len inst.now.weights) }
+    ensures short { IfOk result (λ o. height (tree_of o.strategy) ≤ 512) }
+{
+    join(alloc, inst, &mut graph, rows.as_slice())?;
+    settle(alloc, inst, &mut graph)?;
+    let settled = settled_by(alloc, inst, &graph, rows.as_slice())?;
+    finish_settled(alloc, inst, graph.numbers, limit, settled, missed)
 }
 
 /// The outcome of a search that holds this graph: what `finish` makes of its rows. The graph settles them by

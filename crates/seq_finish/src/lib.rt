@@ -7,12 +7,16 @@
 //! outcome, and an outcome may be optimal where the search that made the rows had met its limit. The
 //! numbers of a search spare work and change nothing of the outcome. Its worked values stand with the
 //! search on one thread, which makes the rows.
+//!
+//! A search on one thread ends with its graph (`finish_graph`). Where several workers searched, one of their
+//! graphs takes in what all found (`finish_with`). Rows alone are taken in by an empty graph (`finish`).
 #![tactic(auto)]
 
 mod ending;
+mod joining;
 mod laws;
 mod places;
 mod strategy;
 
-pub use ending::{finish, finish_graph};
+pub use ending::{finish, finish_graph, finish_with};
 pub use laws::outcomes_hold;

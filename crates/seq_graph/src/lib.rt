@@ -18,6 +18,7 @@ mod bounds;
 mod choice;
 mod counts;
 mod events;
+mod finding;
 mod graph;
 mod greedy;
 mod laws;
@@ -35,6 +36,7 @@ mod waiting;
 
 pub use bounds::{Bounds, backed_up};
 pub use events::{add, back_up, enter, hear};
+pub use finding::place_of;
 pub use graph::{Count, Graph};
 pub use laws::turns_move;
 pub use node::{Node, Split, Waiting};
