@@ -2,12 +2,13 @@
 -- says.
 use Rattle.std.proofs.Common.{◌≡◌, ℕ, List, [], ◌∷◌, ◌++◌, refl, sym, ap, ◌∙◌, inl, inr, Option, Some, None}
 use Rattle.std.specs.Prelude.{true, false, cond, is_some}
-use Rattle.std.specs.Str.{bytes_eq}
 use Rattle.std.proofs.lemmas.Bool.{cases_Bool, true≢false}
 use Rattle.std.proofs.lemmas.List.{map-append}
 use Rattle.std.proofs.lemmas.Slice.Eq.{bytes_eq-Decides}
 use Rattle.std.specs.Map.{lookup}
-use Rattle.indexmap.specs.IndexMap.{IndexMap, get}
+use Rattle.std.specs.Ordering.{is_eq, nat_cmp}
+use Rattle.std.specs.Cmp.Lexicographic.{slice_cmp, texts_ties}
+use Rattle.std.specs.BTreeMap.{BTreeMap, get}
 use Rattle.seq_theory.specs.Graph.{same_group}
 use Rattle.seq_theory.specs.Claims.{Claim, claim_of}
 use Rattle.seq_theory.proofs.RowLaws.{same_group-true, same_group-refl}
@@ -36,29 +37,29 @@ or_none None = refl
 or_none (Some n) = refl
 
 -- a map of the lows of no lines
-pub no_lows : {S : Type 0} (m : IndexMap (List ℕ) ℕ S) → m.entries ≡ [] → AreLows m []
-no_lows m empty g w = ap (lookup (bytes_eq g.0)) empty
+pub no_lows : (m : BTreeMap (List ℕ) ℕ) → m.entries ≡ [] → AreLows m []
+no_lows m empty g w = ap (lookup (λ k. is_eq (slice_cmp nat_cmp g.0 k))) empty
 
 claims-push : (lines : List GroupLine) (line : GroupLine) → claims_of (lines ++ line ∷ []) ≡ claims_of lines ++ claim_at line ∷ []
 claims-push lines line = map-append claim_at lines (line ∷ [])
 
-module _ {S : Type 0} (old : IndexMap (List ℕ) ℕ S) (lines : List GroupLine) (line : GroupLine) (law : SameWordsHold) (w : IsWords line.group) (are : AreLows old lines) where
+module _ (old : BTreeMap (List ℕ) ℕ) (lines : List GroupLine) (line : GroupLine) (law : SameWordsHold) (w : IsWords line.group) (are : AreLows old lines) where
   later : (g : Group) → claim_of (claims_of (lines ++ line ∷ [])) (members g) ≡ cond (is_some (claim_of (claims_of lines) (members g))) (claim_of (claims_of lines) (members g)) (cond (same_group (members g) (members line.group)) (Some line.low) None)
   later g = ap (λ cs. claim_of cs (members g)) (claims-push lines line) ∙ claim_of-append (claims_of lines) (claim_at line) (members g)
 
   -- the line's group is new
-  pub noted : (new : IndexMap (List ℕ) ℕ S) → false ≡ is_some (get bytes_eq old line.group.0) → ((q : List ℕ) → get bytes_eq new q ≡ cond (bytes_eq line.group.0 q) (Some line.low) (get bytes_eq old q)) → AreLows new (lines ++ line ∷ [])
+  pub noted : (new : BTreeMap (List ℕ) ℕ) → false ≡ is_some (get (slice_cmp nat_cmp) old line.group.0) → ((q : List ℕ) → get (slice_cmp nat_cmp) new q ≡ cond (is_eq (slice_cmp nat_cmp line.group.0 q)) (Some line.low) (get (slice_cmp nat_cmp) old q)) → AreLows new (lines ++ line ∷ [])
   noted new absent updates g wg = elim (cases_Bool (same_group (members g) (members line.group))) [
     | inl y ↦
         (let words : g.0 ≡ line.group.0 = (law g line.group wg w).same (same_group-true (members g) (members line.group) y) in
-        let same : bytes_eq line.group.0 g.0 ≡ true = (bytes_eq-Decides line.group.0 g.0).1 (sym words) in
-        let none : is_some (claim_of (claims_of lines) (members g)) ≡ false = ap is_some (sym (are g wg)) ∙ ap (λ q. is_some (get bytes_eq old q)) words ∙ sym absent in
-        let a : get bytes_eq new g.0 ≡ Some line.low = updates g.0 ∙ rw same refl in
+        let same : is_eq (slice_cmp nat_cmp line.group.0 g.0) ≡ true = sym (texts_ties line.group.0 g.0) ∙ (bytes_eq-Decides line.group.0 g.0).1 (sym words) in
+        let none : is_some (claim_of (claims_of lines) (members g)) ≡ false = ap is_some (sym (are g wg)) ∙ ap (λ q. is_some (get (slice_cmp nat_cmp) old q)) words ∙ sym absent in
+        let a : get (slice_cmp nat_cmp) new g.0 ≡ Some line.low = updates g.0 ∙ rw same refl in
         let b : claim_of (claims_of (lines ++ line ∷ [])) (members g) ≡ Some line.low = later g ∙ rw (none, y) refl in
         a ∙ sym b)
     | inr n ↦
-        (let other : bytes_eq line.group.0 g.0 ≡ false = (law line.group g w wg).test ∙ swapped line.group g n in
-        let a : get bytes_eq new g.0 ≡ claim_of (claims_of lines) (members g) = updates g.0 ∙ rw other (are g wg) in
+        (let other : is_eq (slice_cmp nat_cmp line.group.0 g.0) ≡ false = sym (texts_ties line.group.0 g.0) ∙ (law line.group g w wg).test ∙ swapped line.group g n in
+        let a : get (slice_cmp nat_cmp) new g.0 ≡ claim_of (claims_of lines) (members g) = updates g.0 ∙ rw other (are g wg) in
         let b : claim_of (claims_of (lines ++ line ∷ [])) (members g) ≡ claim_of (claims_of lines) (members g) = later g ∙ rw n (or_none (claim_of (claims_of lines) (members g))) in
         a ∙ sym b)
   ]
@@ -70,11 +71,11 @@ module _ {S : Type 0} (old : IndexMap (List ℕ) ℕ S) (lines : List GroupLine)
       ]
 
   -- the line's group was listed before
-  pub kept : true ≡ is_some (get bytes_eq old line.group.0) → AreLows old (lines ++ line ∷ [])
+  pub kept : true ≡ is_some (get (slice_cmp nat_cmp) old line.group.0) → AreLows old (lines ++ line ∷ [])
   kept there g wg = elim (cases_Bool (same_group (members g) (members line.group))) [
     | inl y ↦
         (let words : g.0 ≡ line.group.0 = (law g line.group wg w).same (same_group-true (members g) (members line.group) y) in
-        let some : is_some (claim_of (claims_of lines) (members g)) ≡ true = ap is_some (sym (are g wg)) ∙ ap (λ q. is_some (get bytes_eq old q)) words ∙ sym there in
+        let some : is_some (claim_of (claims_of lines) (members g)) ≡ true = ap is_some (sym (are g wg)) ∙ ap (λ q. is_some (get (slice_cmp nat_cmp) old q)) words ∙ sym there in
         are g wg ∙ sym (later g ∙ rw some refl))
     | inr n ↦ are g wg ∙ sym (later g ∙ rw n (or_none (claim_of (claims_of lines) (members g))))
   ]
