@@ -8,3 +8,4 @@ pub mod Roots
 pub mod Halves
 pub mod FreshLaws
 pub mod EndLaws
+pub mod ExampleLaws

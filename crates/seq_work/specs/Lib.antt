@@ -4,3 +4,4 @@ pub mod Ends
 pub mod Fans
 pub mod Prepares
 pub mod Searches
+pub mod Examples

@@ -18,6 +18,8 @@ mod prepared;
 mod preparing;
 mod searching;
 mod shared;
+#[cfg(test)]
+mod tests;
 mod turn;
 mod work;
 
