@@ -36,14 +36,17 @@ static long chosen(const char *name) {
   return number;
 }
 
+/* Threads count together. */
+static long counts(long *count, long step) { return __atomic_add_fetch(count, step, __ATOMIC_SEQ_CST); }
+
 static int is_refused(void) {
   long first = chosen("REFUSE_FROM");
-  asked++;
-  return asked == chosen("REFUSE_AT") || (first && asked >= first);
+  long now = counts(&asked, 1);
+  return now == chosen("REFUSE_AT") || (first && now >= first);
 }
 
 static void *counted(void *piece) {
-  if (piece) held++;
+  if (piece) counts(&held, 1);
   else *__errno_location() = ENOMEM;
   return piece;
 }
@@ -67,7 +70,7 @@ void *realloc(void *piece, size bytes) {
 }
 
 void free(void *piece) {
-  if (piece && !quiet) held--;
+  if (piece && !quiet) counts(&held, -1);
   __libc_free(piece);
 }
 
@@ -82,17 +85,18 @@ static long fails(void) {
 }
 
 long read(int file, void *into, size bytes) {
-  reads++;
-  if (reads == chosen("READ_STOPS")) raise(STOP);
-  if (reads == chosen("READ_FAILS")) return fails();
+  long now = counts(&reads, 1);
+  if (now == chosen("READ_STOPS")) raise(STOP);
+  if (now == chosen("READ_FAILS")) return fails();
   return syscall(READ, file, into, at_most("READ_MOST", bytes));
 }
 
 long write(int file, const void *from, size bytes) {
+  long now;
   if (file != 1) return syscall(WRITE, file, from, bytes);
-  writes++;
-  if (writes == chosen("WRITE_FAILS")) return fails();
-  if (writes == chosen("WRITE_NONE")) return 0;
+  now = counts(&writes, 1);
+  if (now == chosen("WRITE_FAILS")) return fails();
+  if (now == chosen("WRITE_NONE")) return 0;
   return syscall(WRITE, file, from, at_most("WRITE_MOST", bytes));
 }
 
