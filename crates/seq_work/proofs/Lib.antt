@@ -8,3 +8,5 @@ pub mod Roots
 pub mod Halves
 pub mod FreshLaws
 pub mod EndLaws
+pub mod GraphLaws
+pub mod LargestLaws
