@@ -30,6 +30,7 @@ use Rattle.seq_words.specs.declared.view.View.{View}
 use Rattle.seq_words.specs.Knowledge.{told_of, problem_in}
 use Rattle.seq_words.specs.Seats.{Wording, Sitting}
 use Rattle.seq_words.specs.Closing.{AreOf}
+use Rattle.seq_work.specs.declared.local.Local.{Local}
 use Rattle.seq_work.specs.declared.work.WorkEnd.{WorkEnd}
 use Rattle.seq_work.specs.declared.work.WorkEnd.TheVariants.{Solved, Full, OutOfMemory}
 use Rattle.seq_work.specs.Turns.{IsFullFor}
@@ -86,12 +87,12 @@ begins p rows v k a = record {
 }
 
 -- the first worker's seat knows where the group of all classes is
-pub begins-done : (inst : Instance) (w : Wording) (rows : List Row) (seats : List Sitting) (ends : List (Option WorkEnd)) (n : ℕ) → AreDone inst w seats ends → All (λ (s : Sitting). AreOf s.view rows) seats → length ends ≡ n → 1 ≤ n
+pub begins-done : (inst : Instance) (w : Wording) (rows : List Row) (seats : List Sitting) (locals : List Local) (ends : List (Option WorkEnd)) (n : ℕ) → AreDone inst w seats locals ends → All (λ (s : Sitting). AreOf s.view rows) seats → length ends ≡ n → 1 ≤ n
     → BeginsWithAll (problem_of inst) rows
-begins-done inst w rows [] [] n done a long some = absurd (let bad : ⊥ = omega arith in bad)
-begins-done inst w rows [] (e ∷ es) n done a long some = absurd done.ended
-begins-done inst w rows (s ∷ ss) [] n done a long some = absurd done.ended
-begins-done inst w rows (s ∷ ss) (e ∷ es) n done a long some = begins (problem_of inst) rows s.view done.ended.0.root (a 0 s (omega arith))
+begins-done inst w rows [] locals [] n done a long some = absurd (let bad : ⊥ = omega arith in bad)
+begins-done inst w rows [] locals (e ∷ es) n done a long some = absurd done.ended
+begins-done inst w rows (s ∷ ss) locals [] n done a long some = absurd done.ended
+begins-done inst w rows (s ∷ ss) locals (e ∷ es) n done a long some = begins (problem_of inst) rows s.view done.ended.0.root (a 0 s (omega arith))
 
 -- the closed rows are sound rows of the instance
 pub sound-rows : (inst : Instance) (w : Wording) (limit : ℕ) (rows : List Row) → w.told ≡ told_of inst → w.limit ≡ limit → IsSound (problem_in w.told) w.limit (rows_from rows) → IsSound (problem_of inst) limit (rows_from rows)
@@ -112,6 +113,15 @@ filled n ends = ends ++ drop n (replicate 16 None)
 
 past-ends : (n : ℕ) (ends : List (Option WorkEnd)) (k : ℕ) → length ends ≡ n → n ≤ k → end_of (filled n ends) k ≡ None
 past-ends n ends k long past = get_or-append_right ends (drop n (replicate 16 None)) k None (omega arith) ∙ (get_or-drop n (replicate 16 None) (k - length ends) None ∙ same-default None 16 (n + (k - length ends)))
+
+-- no worker found too little memory, where none did of those with none after the last
+pub short-front : (ends : List (Option WorkEnd)) (n : ℕ) → length ends ≡ n → ((k : ℕ) → end_of (filled n ends) k ≡ Some OutOfMemory → ⊥) → (k : ℕ) → end_of ends k ≡ Some OutOfMemory → ⊥
+short-front ends n long short k e = dite (dec_le n k)
+    (λ past. no-short (get_or_past ends k None (omega arith)) e)
+    (λ there. short k (get_or-append ends (drop n (replicate 16 None)) None k (omega arith) ∙ e))
+  where
+    no-short : {o : Option WorkEnd} → o ≡ None → o ≡ Some OutOfMemory → ⊥
+    no-short a b = let bad : ⊥ = cc in bad
 
 module _ (inst : Instance) (limit : ℕ) (rows : List Row) (sound : IsSound (problem_of inst) limit (rows_from rows)) where
   -- where the up of a row is no more than its low, these are equal, and so are the group's low and its value
@@ -180,24 +190,21 @@ module _ (inst : Instance) (limit : ℕ) (rows : List Row) (sound : IsSound (pro
   front-causes w (s ∷ ss) (e ∷ es) is b z a n zero lt = one-cause w s e is b z.0 (a 0 s (omega arith)) (n 0)
   front-causes w (s ∷ ss) (e ∷ es) is b z a n (suc k) lt = front-causes w ss es is b z.1 (λ j d l. a (suc j) d (omega arith)) (λ j. n (suc j)) k (omega arith)
 
-  one-end : (w : Wording) (seats : List Sitting) (ends : List (Option WorkEnd)) (n : ℕ) → w.limit ≡ limit → BeginsWithAll (problem_of inst) rows → AreDone inst w seats ends → All (λ (s : Sitting). AreOf s.view rows) seats → length ends ≡ n
+  one-end : (w : Wording) (seats : List Sitting) (ends : List (Option WorkEnd)) (n : ℕ) → w.limit ≡ limit → BeginsWithAll (problem_of inst) rows → AllZip (WorkedAt inst w) seats ends → All (λ (s : Sitting). AreOf s.view rows) seats → length ends ≡ n
       → ((k : ℕ) → end_of (filled n ends) k ≡ Some OutOfMemory → ⊥) → (k : ℕ) → k < n → IsSome (end_of (filled n ends) k) × IfSome (end_of (filled n ends) k) (HasCause (problem_of inst) limit rows)
-  one-end w seats ends n is b done a long short k lt =
+  one-end w seats ends n is b ended a long short k lt =
       let at : (j : ℕ) → j < n → end_of (filled n ends) j ≡ end_of ends j = λ j l. get_or-append ends (drop n (replicate 16 None)) None j (omega arith) in
-      let front = front-causes w seats ends is b done.ended a (λ j e. dite (dec_le n j) (λ past. no-short (get_or_past ends j None (omega arith)) e) (λ there. short j (at j (omega arith) ∙ e))) k (omega arith) in
+      let front = front-causes w seats ends is b ended a (short-front ends n long short) k (omega arith) in
       subst (λ (o : Option WorkEnd). IsSome o × IfSome o (HasCause (problem_of inst) limit rows)) (sym (at k lt)) front
-    where
-      no-short : {o : Option WorkEnd} → o ≡ None → o ≡ Some OutOfMemory → ⊥
-      no-short e f = let bad : ⊥ = cc in bad
 
   -- each worker has ended for its cause, and none of them for want of memory
-  pub have-ended : (w : Wording) (seats : List Sitting) (ends : List (Option WorkEnd)) (n : ℕ) → w.limit ≡ limit → BeginsWithAll (problem_of inst) rows → AreDone inst w seats ends → All (λ (s : Sitting). AreOf s.view rows) seats → length ends ≡ n
+  pub have-ended : (w : Wording) (seats : List Sitting) (locals : List Local) (ends : List (Option WorkEnd)) (n : ℕ) → w.limit ≡ limit → BeginsWithAll (problem_of inst) rows → AreDone inst w seats locals ends → All (λ (s : Sitting). AreOf s.view rows) seats → length ends ≡ n
       → ((k : ℕ) → end_of (filled n ends) k ≡ Some OutOfMemory → ⊥) → HaveEnded (problem_of inst) limit n rows (filled n ends)
-  have-ended w seats ends n is b done a long short = record {
-    all = λ k lt. (one-end w seats ends n is b done a long short k lt).0;
+  have-ended w seats locals ends n is b done a long short = record {
+    all = λ k lt. (one-end w seats ends n is b done.ended a long short k lt).0;
     causes = λ k. dite (dec_le n k)
         (λ past. subst (λ (o : Option WorkEnd). IfSome o (HasCause (problem_of inst) limit rows)) (sym (past-ends n ends k long past)) tt)
-        (λ there. (one-end w seats ends n is b done a long short k (omega arith)).1);
+        (λ there. (one-end w seats ends n is b done.ended a long short k (omega arith)).1);
     no_other = λ k past. past-ends n ends k long past;
   }
 

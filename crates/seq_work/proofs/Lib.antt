@@ -9,3 +9,5 @@ pub mod Halves
 pub mod FreshLaws
 pub mod EndLaws
 pub mod ExampleLaws
+pub mod GraphLaws
+pub mod LargestLaws

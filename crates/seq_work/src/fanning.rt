@@ -24,7 +24,7 @@ pub fn fan<N: Naming + Send + Sync, R: Threads + Wait + Sync, G: Gate + Sync>(
     ends: &mut [Option<WorkEnd>],
 )
     requires { AreReady shared.now.inst N.words seats.old locals.old ends.old }
-    ensures { AreDone shared.now.inst N.words seats.new ends.new }
+    ensures { AreDone shared.now.inst N.words seats.new locals.new ends.new }
 {
     if seats.len() == 0 {
         return;
@@ -41,11 +41,11 @@ pub fn fan<N: Naming + Send + Sync, R: Threads + Wait + Sync, G: Gate + Sync>(
         rt,
         &mut ||
             requires { IsSync R.row × IsSync N.row × IsSync G.row × AreReady shared.now.inst N.words seats_a.now locals_a.now ends_a.now }
-            ensures { AreDone shared.entry.now.inst N.words seats_a.exit.now ends_a.exit.now }
+            ensures { AreDone shared.entry.now.inst N.words seats_a.exit.now locals_a.exit.now ends_a.exit.now }
         { fan(rt, alloc, shared, gate, seats_a, locals_a, ends_a) },
         &mut ||
             requires { IsSync R.row × IsSync N.row × IsSync G.row × AreReady shared.now.inst N.words seats_b.now locals_b.now ends_b.now }
-            ensures { AreDone shared.entry.now.inst N.words seats_b.exit.now ends_b.exit.now }
+            ensures { AreDone shared.entry.now.inst N.words seats_b.exit.now locals_b.exit.now ends_b.exit.now }
         { fan(rt, alloc, shared, gate, seats_b, locals_b, ends_b) },
     );
 }

@@ -1,6 +1,6 @@
 //! The search by workers: they work side by side, each until it knows the group of all classes closed or finds no
 //! place for a group; then the words are closed. Whichever worker found a bound, the rows that come out have it.
-ghost use Rattle.std.specs.Prelude.{◌≡◌, ◌≢◌, ℕ, true, false, length, IfOk, Some};
+ghost use Rattle.std.specs.Prelude.{◌≡◌, ◌≢◌, ℕ, ◌≤◌, true, false, length, All, Any, IfOk, Some};
 ghost use Rattle.seq_theory.specs.Problem.{all_classes, is_end};
 ghost use Rattle.seq_theory.specs.Graph.{is_entered};
 ghost use Rattle.seq_theory.specs.Rows.{IsSound};
@@ -8,6 +8,8 @@ ghost use Rattle.seq_inst.specs.Instances.{problem_of};
 ghost use Rattle.seq_core.specs.RowsOf.{rows_of as rows_from};
 ghost use Rattle.seq_core.specs.Settled.{groups_in};
 ghost use Rattle.seq_core.specs.Entered.{MayStop};
+ghost use Rattle.seq_graph.specs.Behind.{AreBehind};
+ghost use Rattle.seq_graph.specs.Known.{IsGraphOf};
 ghost use Rattle.seq_work.specs.declared.work.WorkEnd.TheVariants.{OutOfMemory};
 ghost use Rattle.seq_work.specs.Fans.{AreReady, AreDone};
 ghost use Rattle.seq_work.specs.Prepares.{IsPrepared};
@@ -18,6 +20,7 @@ use crate::local::Local;
 use crate::prepared::Prepared;
 use crate::shared::Shared;
 use crate::work::WorkEnd;
+use seq_graph::Graph;
 use seq_inst::Group;
 use seq_table::{Naming, Tables};
 use seq_words::{Closed, Seat, close};
@@ -27,10 +30,13 @@ use std::marker::Brand;
 use std::sync::Wait;
 use std::thread::Threads;
 
-/// The closed words, the group that the first worker missed of those that missed one, and how each ended.
+/// The closed words, the graph of one worker, the group that the first worker missed of those that missed one, and
+/// how each ended.
 #[derive(Drop)]
 pub struct Ended {
     pub closed: Closed,
+    /// It is behind the rows of the words, and holds what that worker has worked out of its groups.
+    pub graph: Graph,
     pub missed: Option<Group>,
     /// By worker; None past the last one.
     pub ends: [Option<WorkEnd>; 16],
@@ -60,6 +66,24 @@ fn is_short(ends: &[Option<WorkEnd>]) -> bool
     false
 }
 
+/// The graph of these workers' that has the most rows.
+fn largest(mut locals: Vec<Local>) -> Graph
+    requires { 1 ≤ length locals.items }
+    ensures one { Any (λ l. l.graph ≡ result) locals.items }
+    ensures most { All (λ l. length l.graph.rows.items ≤ length result.rows.items) locals.items }
+{
+    let Some(last) = locals.pop() else {
+        unreachable!();
+    };
+    let mut best = last.graph;
+    'others: while let Some(other) = locals.pop() {
+        if other.graph.rows.len() > best.rows.len() {
+            best = other.graph;
+        }
+    }
+    best
+}
+
 /// Each seat's worker works.
 fn fan_out<N: Naming + Send + Sync, R: Threads + Wait + Sync, G: Gate + Sync>(
     rt: &R,
@@ -71,7 +95,7 @@ fn fan_out<N: Naming + Send + Sync, R: Threads + Wait + Sync, G: Gate + Sync>(
     ends: &mut [Option<WorkEnd>],
 )
     requires { AreReady shared.now.inst N.words seats.old.items locals.old.items ends.old }
-    ensures { AreDone shared.now.inst N.words seats.new.items ends.new }
+    ensures { AreDone shared.now.inst N.words seats.new.items locals.new.items ends.new }
 {
     fan(
         rt,
@@ -100,6 +124,8 @@ fn search_named<N: Naming + Send + Sync, R: Threads + Wait + Sync, G: Gate + Syn
     ensures stopped { IfOk result (λ e. MayStop (problem_of prepared.inst) prepared.limit (groups_in e.closed.rows) e.missed) }
     ensures ended { IfOk result (λ e. HaveEnded (problem_of prepared.inst) prepared.limit (length prepared.seats.items) e.closed.rows e.ends) }
     ensures missed { IfOk result (λ e. e.missed ≡ missed_first e.ends) }
+    ensures graph { IfOk result (λ e. IsGraphOf prepared.inst e.graph) }
+    ensures behind { IfOk result (λ e. AreBehind e.closed.rows e.graph.rows.items) }
 {
     let Prepared {
         words,
@@ -138,9 +164,11 @@ fn search_named<N: Naming + Send + Sync, R: Threads + Wait + Sync, G: Gate + Syn
     if is_short(&ends) {
         return Err(AllocError);
     }
+    let graph = largest(locals);
     let missed = first_missed(&ends);
     Ok(Ended {
         closed,
+        graph,
         missed,
         ends,
     })
@@ -162,6 +190,8 @@ pub fn search<R: Threads + Wait + Sync, G: Gate + Sync>(
     ensures stopped { IfOk result (λ e. MayStop (problem_of prepared.inst) prepared.limit (groups_in e.closed.rows) e.missed) }
     ensures ended { IfOk result (λ e. HaveEnded (problem_of prepared.inst) prepared.limit (length prepared.seats.items) e.closed.rows e.ends) }
     ensures missed { IfOk result (λ e. e.missed ≡ missed_first e.ends) }
+    ensures graph { IfOk result (λ e. IsGraphOf prepared.inst e.graph) }
+    ensures behind { IfOk result (λ e. AreBehind e.closed.rows e.graph.rows.items) }
 {
     search_named::<Brand, R, G>(rt, alloc, prepared, gate)
 }

@@ -1,13 +1,14 @@
 //! A worker's whole run: the group of all classes gets a row, and turns follow until it is closed, or a group finds
 //! no place. A turn enters a group or closes one, so there are at most twice as many turns as places, whatever
 //! the others do.
-ghost use Rattle.std.specs.Prelude.{◌≡◌, ◌≤◌, false, [], length, IfOk};
+ghost use Rattle.std.specs.Prelude.{◌≡◌, ◌≢◌, ◌≤◌, false, [], length, IfOk};
 ghost use Rattle.seq_theory.specs.Problem.{is_end, all_classes};
 ghost use Rattle.seq_inst.specs.Members.{members};
 ghost use Rattle.seq_inst.specs.Instances.{problem_of};
 ghost use Rattle.seq_graph.specs.Known.{group_at};
 ghost use Rattle.seq_words.specs.Knowledge.{Covers};
 ghost use Rattle.seq_words.specs.Seats.{IsOf};
+ghost use Rattle.seq_work.specs.declared.work.WorkEnd.TheVariants.{OutOfMemory};
 ghost use Rattle.seq_work.specs.Works.{Ready};
 ghost use Rattle.seq_work.specs.Ends.{KnowsRoot, Worked};
 ghost use Rattle.seq_work.specs.Fans.{MayBegin};
@@ -75,6 +76,7 @@ fn turns<N: Naming + Send + Sync, R: Wait, G: Gate + Sync>(
     ensures of { IsOf N.words seat.new }
     ensures covers { Covers seat.new.view seat.old.view }
     ensures worked { IfOk result (Worked shared.now.inst N.words seat.new) }
+    ensures ready { IfOk result (λ _. Ready shared.now.inst N.words seat.new local.new) }
 {
     let mut count = 0u64;
     'turns: while local.graph.rows[0].low != local.graph.rows[0].up {
@@ -102,6 +104,7 @@ fn run<N: Naming + Send + Sync, R: Wait, G: Gate + Sync>(
     ensures of { IsOf N.words seat.new }
     ensures covers { Covers seat.new.view seat.old.view }
     ensures worked { IfOk result (Worked shared.now.inst N.words seat.new) }
+    ensures ready { IfOk result (λ _. Ready shared.now.inst N.words seat.new local.new) }
 {
     let all = root(&shared.inst);
     if is_leaf(&shared.inst, &all) {
@@ -126,6 +129,7 @@ pub fn work_at<N: Naming + Send + Sync, R: Wait, G: Gate + Sync>(
     ensures covers { Covers seat.new.view seat.old.view }
     ensures root { KnowsRoot (problem_of shared.now.inst) seat.new.view }
     ensures worked { Worked shared.now.inst N.words seat.new result }
+    ensures ready { result ≢ OutOfMemory → Ready shared.now.inst N.words seat.new local.new }
 {
     match run(rt, alloc, shared, seat, local, gate) {
         Ok(end) => end,

@@ -5,7 +5,8 @@ use Rattle.seq_core.specs.Settled.{groups_in}
 use Rattle.seq_core.specs.Entered.{MayStop}
 use Rattle.seq_words.specs.Seats.{Wording}
 use Rattle.seq_work.specs.Searches.{HaveEnded}
-use Rattle.seq_work.proofs.EndLaws.{filled, begins-done, sound-rows, root-entered, have-ended, may-stop}
+use Rattle.seq_work.proofs.EndLaws.{filled, begins-done, sound-rows, root-entered, have-ended, may-stop, short-front}
+use Rattle.seq_work.proofs.GraphLaws.{as-many, all-left, one-left}
 use Rattle.seq_work.proofs.searching.search_named.Goals as goal
 
 pub returns-clause-first : goal.returns-clause-first
@@ -16,7 +17,7 @@ returns-clause-first g c =
     let some = c.requires.prepared.some in
     let count : c.len-count.result ≡ length c.args.prepared.seats.items = c.len-count.ensures ∙ c.args.prepared.seats.ok.0 in
     let long : length ends ≡ c.len-count.result = search rules in
-    begins-done inst g.N.Naming.words rows c.fan_out.new.seats.items ends c.len-count.result c.fan_out.ensures c.close-closed.ensures.seats long (omega arith)
+    begins-done inst g.N.Naming.words rows c.fan_out.new.seats.items c.fan_out.new.locals.items ends c.len-count.result c.fan_out.ensures c.close-closed.ensures.seats long (omega arith)
 
 pub returns-clause-root : goal.returns-clause-root
 returns-clause-root g c =
@@ -26,7 +27,7 @@ returns-clause-root g c =
     let some = c.requires.prepared.some in
     let count : c.len-count.result ≡ length c.args.prepared.seats.items = c.len-count.ensures ∙ c.args.prepared.seats.ok.0 in
     let long : length ends ≡ c.len-count.result = search rules in
-    let first = begins-done inst g.N.Naming.words rows c.fan_out.new.seats.items ends c.len-count.result c.fan_out.ensures c.close-closed.ensures.seats long (omega arith) in
+    let first = begins-done inst g.N.Naming.words rows c.fan_out.new.seats.items c.fan_out.new.locals.items ends c.len-count.result c.fan_out.ensures c.close-closed.ensures.seats long (omega arith) in
     root-entered (problem_of inst) rows first
 
 pub returns-clause-ended : goal.returns-clause-ended
@@ -43,10 +44,10 @@ returns-clause-ended g c =
     let count : n ≡ length c.args.prepared.seats.items = c.len-count.ensures ∙ c.args.prepared.seats.ok.0 in
     let long : length ends ≡ n = search rules in
     let sound = sound-rows inst c.args.prepared.words limit rows p.told p.limit_is c.close-closed.ensures.sound in
-    let first = begins-done inst words rows seats ends n c.fan_out.ensures c.close-closed.ensures.seats long (omega arith) in
+    let first = begins-done inst words rows seats c.fan_out.new.locals.items ends n c.fan_out.ensures c.close-closed.ensures.seats long (omega arith) in
     let is = sym (ap (λ (w : Wording). w.limit) c.requires.named) ∙ p.limit_is in
     subst (λ m. HaveEnded (problem_of inst) limit m rows (filled n ends)) count
-    (have-ended inst limit rows sound words seats ends n is first c.fan_out.ensures c.close-closed.ensures.seats long (c.is_short.ensures c.if-is_short.false))
+    (have-ended inst limit rows sound words seats c.fan_out.new.locals.items ends n is first c.fan_out.ensures c.close-closed.ensures.seats long (c.is_short.ensures c.if-is_short.false))
 
 pub returns-clause-stopped : goal.returns-clause-stopped
 returns-clause-stopped g c =
@@ -62,7 +63,34 @@ returns-clause-stopped g c =
     let count : n ≡ length c.args.prepared.seats.items = c.len-count.ensures ∙ c.args.prepared.seats.ok.0 in
     let long : length ends ≡ n = search rules in
     let sound = sound-rows inst c.args.prepared.words limit rows p.told p.limit_is c.close-closed.ensures.sound in
-    let first = begins-done inst words rows seats ends n c.fan_out.ensures c.close-closed.ensures.seats long (omega arith) in
+    let first = begins-done inst words rows seats c.fan_out.new.locals.items ends n c.fan_out.ensures c.close-closed.ensures.seats long (omega arith) in
     let is = sym (ap (λ (w : Wording). w.limit) c.requires.named) ∙ p.limit_is in
-    let ended = have-ended inst limit rows sound words seats ends n is first c.fan_out.ensures c.close-closed.ensures.seats long (c.is_short.ensures c.if-is_short.false) in
+    let ended = have-ended inst limit rows sound words seats c.fan_out.new.locals.items ends n is first c.fan_out.ensures c.close-closed.ensures.seats long (c.is_short.ensures c.if-is_short.false) in
     subst (λ (o : Option Group). MayStop (problem_of inst) limit (groups_in rows) o) (sym c.first_missed-missed.ensures) (may-stop inst limit rows sound n (filled n ends) (omega arith) ended)
+
+pub largest-graph-requires : goal.largest-graph-requires
+largest-graph-requires g c =
+    let ends = c.fan_out.new.ends in
+    let some = c.requires.prepared.some in
+    let count : c.len-count.result ≡ length c.args.prepared.seats.items = c.len-count.ensures ∙ c.args.prepared.seats.ok.0 in
+    let long : length ends ≡ c.len-count.result = search rules in
+    let same = as-many c.args.prepared.inst g.N.Naming.words c.fan_out.new.seats.items c.fan_out.new.locals.items ends c.fan_out.ensures.ready in
+    omega arith
+
+pub returns-clause-graph : goal.returns-clause-graph
+returns-clause-graph g c =
+    let inst = c.args.prepared.inst in
+    let rows = c.close-closed.result.rows in
+    let ends = c.fan_out.new.ends in
+    let long : length ends ≡ c.len-count.result = search rules in
+    let all = all-left inst g.N.Naming.words rows c.fan_out.new.seats.items c.fan_out.new.locals.items ends c.fan_out.ensures.ready c.close-closed.ensures.seats (short-front ends c.len-count.result long (c.is_short.ensures c.if-is_short.false)) in
+    (one-left inst rows c.fan_out.new.locals.items c.largest-graph.result all c.largest-graph.ensures.one).0
+
+pub returns-clause-behind : goal.returns-clause-behind
+returns-clause-behind g c =
+    let inst = c.args.prepared.inst in
+    let rows = c.close-closed.result.rows in
+    let ends = c.fan_out.new.ends in
+    let long : length ends ≡ c.len-count.result = search rules in
+    let all = all-left inst g.N.Naming.words rows c.fan_out.new.seats.items c.fan_out.new.locals.items ends c.fan_out.ensures.ready c.close-closed.ensures.seats (short-front ends c.len-count.result long (c.is_short.ensures c.if-is_short.false)) in
+    (one-left inst rows c.fan_out.new.locals.items c.largest-graph.result all c.largest-graph.ensures.one).1
