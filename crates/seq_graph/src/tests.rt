@@ -35,7 +35,7 @@ fn more_room(inst: &Instance, numbers: &mut Numbers) -> Result<(), AllocError>
     ensures { AreNumbersFor inst.now numbers.new }
 {
     let _ = inst;
-    numbers.reserve(1)
+    numbers.reserve(4, 1)
 }
 
 #[test]
