@@ -2,7 +2,7 @@
 //! and is evaluated where this number is no more than the least sum so far. Where all that wait are
 //! above it, the least sum is certain, and is what evaluating all tests would give. Where the lists have no room
 //! for the tests that may have it, all tests are gone over the plain way.
-ghost use Rattle.std.specs.Prelude.{◌≡◌, ◌<◌, length};
+ghost use Rattle.std.specs.Prelude.{◌≡◌, ◌<◌, length, Some};
 ghost use Rattle.seq_theory.specs.Bound.{step_sum};
 ghost use Rattle.seq_theory.specs.Graph.{step_value};
 ghost use Rattle.seq_theory.specs.Rows.{known_low, known_up};
@@ -10,11 +10,11 @@ ghost use Rattle.seq_inst.specs.Members.{members};
 ghost use Rattle.seq_inst.specs.Instances.{problem_of};
 ghost use Rattle.seq_core.specs.RowsOf.{rows_of as rows_from};
 ghost use Rattle.seq_graph.specs.KeptOf.{HasParts};
-ghost use Rattle.seq_graph.specs.Known.{group_at, splits_at, IsGraphOf};
+ghost use Rattle.seq_graph.specs.Known.{group_at, splits_at, waiting_at, IsGraphOf};
 ghost use Rattle.seq_core.specs.Settled.{value_or};
 ghost use Rattle.seq_graph.specs.Rooms.{KeepsRoom};
 ghost use Rattle.seq_graph.specs.Settling.{evaluated_up};
-ghost use Rattle.seq_graph.specs.Choice.{lesser_split, lesser_value, IsChoice};
+ghost use Rattle.seq_graph.specs.Choice.{lesser_split, lesser_value, IsChoice, IsLeastOf, IsCertain};
 ghost use Rattle.seq_graph.specs.Steps.{least_test as least_test_of};
 
 use crate::graph::Graph;
@@ -137,6 +137,25 @@ fn plain_least(inst: &Instance, graph: &mut Graph, place: usize) -> Least
     }
 }
 
+/// The test of least sum, where the evaluated one that was chosen is certain among those that are listed.
+fn certain_least(inst: &Instance, graph: &mut Graph, place: usize, chosen: Chosen) -> Least
+    requires known { IsGraphOf inst.now graph.old }
+    requires place { place < length graph.old.rows.items }
+    requires least { IsLeastOf (step_sum (problem_of inst.now) (known_low (problem_of inst.now) (rows_from graph.old.rows.items)) (members (group_at graph.old.rows.items place))) (splits_at graph.old.nodes.items place) chosen }
+    requires certain { IsCertain (Some chosen) (waiting_at graph.old.nodes.items place) }
+    ensures known { IsGraphOf inst.now graph.new }
+    ensures rows { graph.new.rows ≡ graph.old.rows }
+    ensures keeps { KeepsRoom graph.old graph.new }
+    ensures test { result.test ≡ least_test_of (problem_of inst.now) graph.new.rows.items (members (group_at graph.new.rows.items place)) }
+    ensures sum { result.sum ≡ step_sum (problem_of inst.now) (known_low (problem_of inst.now) (rows_from graph.new.rows.items)) (members (group_at graph.new.rows.items place)) result.test }
+    ensures up { result.up ≡ value_or (step_value (problem_of inst.now) (known_up (problem_of inst.now) (rows_from graph.new.rows.items)) (members (group_at graph.new.rows.items place)) result.test) }
+{
+    if chosen.sum <= graph.nodes[place].most {
+        return listed_least(inst, graph, place, chosen);
+    }
+    plain_least(inst, graph, place)
+}
+
 /// The test of least sum: by the lists where these have room, else the plain way.
 pub(crate) fn least_test(inst: &Instance, graph: &mut Graph, place: usize) -> Least
     requires known { IsGraphOf inst.now graph.old }
@@ -156,12 +175,10 @@ pub(crate) fn least_test(inst: &Instance, graph: &mut Graph, place: usize) -> Le
         let sum = low_sum(inst, graph, place, split);
         chosen = Some(choose(chosen, split, sum));
     }
-    if let Some(chosen) = chosen {
-        if chosen.sum <= graph.nodes[place].most {
-            return listed_least(inst, graph, place, chosen);
-        }
+    match chosen {
+        Some(chosen) => certain_least(inst, graph, place, chosen),
+        None => plain_least(inst, graph, place),
     }
-    plain_least(inst, graph, place)
 }
 
 /// The lesser of a number and a value, if there is one.

@@ -10,14 +10,14 @@
 //! The lists are handed in by the caller, and hold as many tests as there is room for. Of the tests that find
 //! none those of greatest numbers are left out, and the most is kept up to which all tests are listed. A test
 //! that finds no room when it is evaluated waits on. Then the test of least sum is looked for the plain way.
-ghost use Rattle.std.specs.Prelude.{◌≡◌, ◌⊎◌, ◌+◌, ◌-◌, ◌<◌, ◌++◌, ◌∷◌, [], true, false, min, All, IfSome, vec_len};
-ghost use Rattle.seq_theory.specs.Problem.{IsIn, splitting};
+ghost use Rattle.std.specs.Prelude.{◌≡◌, ◌⊎◌, ◌+◌, ◌-◌, ◌<◌, ◌++◌, ◌∷◌, [], true, false, min, length, All, IfSome, vec_len};
+ghost use Rattle.seq_theory.specs.Problem.{IsIn, splits as is_split, splitting};
 ghost use Rattle.seq_theory.specs.Bound.{bound as bound_by, step_sum};
 ghost use Rattle.seq_inst.specs.Instances.{problem_of, IsGroupOf};
 ghost use Rattle.seq_inst.specs.Members.{members};
 ghost use Rattle.seq_graph.specs.GreedyChoice.{AreEstimatesFor};
 ghost use Rattle.seq_graph.specs.Numbered.{Numbered, capacity, KeepsNumbers, KeepsNumberRoom, AreNumbersFor};
-ghost use Rattle.seq_graph.specs.KeptOf.{HasParts, AreTestsOf, IsKeptOf, EvaluatesAt, KeepsTests};
+ghost use Rattle.seq_graph.specs.KeptOf.{HasParts, AreTestsOf, IsKeptOf, EvaluatesAt, KeepsTests, WaitingSoFar};
 
 use crate::greedy::Estimates;
 use crate::numbers::Numbers;
@@ -80,12 +80,7 @@ impl Growth {
 }
 
 /// The test with the numbers of the parts that it makes of the group, while there is room for numbers.
-fn split_by(
-    numbers: &mut Numbers,
-    inst: &Instance,
-    group: &Group,
-    test: u32,
-) -> Option<Split>
+fn split_by(numbers: &mut Numbers, inst: &Instance, group: &Group, test: u32) -> Option<Split>
     requires numbers { AreNumbersFor inst.now numbers.old }
     requires within { IsGroupOf inst.now group.now }
     requires there { test < vec_len inst.now.costs }
@@ -110,9 +105,9 @@ fn cut_for(estimates: &Estimates, tests: u32, cap: u64, growth: Growth, room: us
     let mut cut = cap;
     for _ in 0..16 {
         let mut many = 0usize;
-        for test in 0..tests {
-            if estimates.of_tests[test as usize] <= cut {
-                many += 1;
+        for estimate in estimates.of_tests {
+            if estimate <= cut {
+                many = many.saturating_add(1);
             }
         }
         if many <= room {
@@ -123,22 +118,72 @@ fn cut_for(estimates: &Estimates, tests: u32, cap: u64, growth: Growth, room: us
     cut
 }
 
-/// Lists a test with its number, where this is not above the cut and there is room. The answer is the most up
-/// to which no test is left out by it.
-fn list_one(
-    waiting: &mut Vec<Waiting>,
-    test: u32,
-    least: u64,
+/// What is listed: tests that may cost no more than the cap, and of these those up to the cut.
+#[derive(Clone, Copy)]
+struct Cuts {
+    cap: u64,
     cut: u64,
     growth: Growth,
-) -> u64
+}
+
+/// Lists a test with its number, where this is not above the cut and there is room. The answer is the most up
+/// to which no test is left out by it.
+fn list_one(waiting: &mut Vec<Waiting>, test: u32, least: u64, cuts: Cuts) -> u64
     ensures { ((waiting.new.items ≡ waiting.old.items ++ record { test = test; least = least } ∷ []) × (result ≡ 18446744073709551615)) ⊎ ((waiting.new.items ≡ waiting.old.items) × (result ≡ least - 1)) }
 {
-    let room = least <= cut && growth.lets(waiting.len(), waiting.capacity());
+    let room = least <= cuts.cut && cuts.growth.lets(waiting.len(), waiting.capacity());
     if room && waiting.push(Waiting { test, least }).is_ok() {
         return u64::MAX;
     }
     least.saturating_sub(1)
+}
+
+/// Lists a test that comes next and splits the group, if it may cost no more than the cap.
+fn list_split(
+    inst: &Instance,
+    group: &Group,
+    estimates: &Estimates,
+    cuts: Cuts,
+    test: u32,
+    most: u64,
+    waiting: &mut Vec<Waiting>,
+) -> u64
+    requires within { IsGroupOf inst.now group.now }
+    requires estimates { AreEstimatesFor inst.now group.now estimates.now }
+    requires there { test < length inst.now.costs.items }
+    requires split { is_split (problem_of inst.now) (members group.now) test ≡ true }
+    requires so_far { WaitingSoFar (problem_of inst.now) (members group.now) (step_sum (problem_of inst.now) (bound_by (problem_of inst.now)) (members group.now)) (min cuts.cap most) test waiting.old.items }
+    ensures { WaitingSoFar (problem_of inst.now) (members group.now) (step_sum (problem_of inst.now) (bound_by (problem_of inst.now)) (members group.now)) (min cuts.cap result) (test + 1) waiting.new.items }
+{
+    let _ = inst;
+    let _ = group;
+    let least = estimates.of_tests[test as usize];
+    if least <= cuts.cap {
+        return most.min(list_one(waiting, test, least, cuts));
+    }
+    most
+}
+
+/// Lists a test that comes next, if it splits the group and may cost no more than the cap.
+fn list_test(
+    inst: &Instance,
+    group: &Group,
+    estimates: &Estimates,
+    cuts: Cuts,
+    test: u32,
+    most: u64,
+    waiting: &mut Vec<Waiting>,
+) -> u64
+    requires within { IsGroupOf inst.now group.now }
+    requires estimates { AreEstimatesFor inst.now group.now estimates.now }
+    requires there { test < length inst.now.costs.items }
+    requires so_far { WaitingSoFar (problem_of inst.now) (members group.now) (step_sum (problem_of inst.now) (bound_by (problem_of inst.now)) (members group.now)) (min cuts.cap most) test waiting.old.items }
+    ensures { WaitingSoFar (problem_of inst.now) (members group.now) (step_sum (problem_of inst.now) (bound_by (problem_of inst.now)) (members group.now)) (min cuts.cap result) (test + 1) waiting.new.items }
+{
+    if splits(inst, group, test) {
+        return list_split(inst, group, estimates, cuts, test, most, waiting);
+    }
+    most
 }
 
 /// Fills the list, which is empty, with the tests that split the group, each with a number that is at most
@@ -155,18 +200,14 @@ fn list_waiting(
     requires within { IsGroupOf inst.now group.now }
     requires estimates { AreEstimatesFor inst.now group.now estimates.now }
     requires empty { waiting.old.items ≡ [] }
-    ensures tests { (v : Numbered) → AreTestsOf (problem_of inst.now) v (members group.now) (step_sum (problem_of inst.now) (bound_by (problem_of inst.now)) (members group.now)) (min cap result) [] waiting.new.items }
+    ensures { (v : Numbered) → AreTestsOf (problem_of inst.now) v (members group.now) (step_sum (problem_of inst.now) (bound_by (problem_of inst.now)) (members group.now)) (min cap result) [] waiting.new.items }
 {
     let tests = inst.costs.len() as u32;
     let cut = cut_for(estimates, tests, cap, growth, waiting.capacity());
+    let cuts = Cuts { cap, cut, growth };
     let mut most = u64::MAX;
     for test in 0..tests {
-        if splits(inst, group, test) {
-            let least = estimates.of_tests[test as usize];
-            if least <= cap {
-                most = most.min(list_one(waiting, test, least, cut, growth));
-            }
-        }
+        most = list_test(inst, group, estimates, cuts, test, most, waiting);
     }
     most
 }

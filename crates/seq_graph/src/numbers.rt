@@ -182,7 +182,9 @@ impl Numbers {
         ensures ok { OnOk result (self.new ≡ record self.old { room = max self.old.room more; held = max self.old.held held }) }
         ensures err { OnErr result (self.new ≡ self.old) }
         ensures numbers { (p : Problem) → AreNumbers p self.old → AreNumbers p self.new }
-        ensures keeps { KeepsNumbers self.old self.new }
+        ensures groups { self.new.groups ≡ self.old.groups }
+        ensures more { self.old.held ≤ self.new.held }
+        ensures capacity { capacity self.new ≤ length self.old.groups + (max self.old.room more + max self.old.held held) }
     {
         let room = self.room.max(more);
         let held = self.held.max(held);

@@ -1,7 +1,7 @@
 //! Sums of tests the plain way, by what is known of their parts. Where a group's lists have no room for a test
 //! that may be of least sum, all tests that split the group are gone over. It takes no memory and uses no room,
 //! and the answers are those of the lists: only slower.
-ghost use Rattle.std.specs.Prelude.{◌≡◌, ◌<◌, ◌≤◌, length, vec_len};
+ghost use Rattle.std.specs.Prelude.{◌≡◌, ◌+◌, ◌<◌, ◌≤◌, length, vec_len};
 ghost use Rattle.seq_theory.specs.Problem.{weight_of as weight_sum};
 ghost use Rattle.seq_theory.specs.Bound.{step_sum};
 ghost use Rattle.seq_theory.specs.Graph.{step_value};
@@ -13,7 +13,8 @@ ghost use Rattle.seq_core.specs.RowsOf.{rows_of as rows_from};
 ghost use Rattle.seq_core.specs.Settled.{value_or};
 ghost use Rattle.seq_graph.specs.Known.{group_at, IsGraphOf};
 ghost use Rattle.seq_graph.specs.Rooms.{KeepsRoom};
-ghost use Rattle.seq_graph.specs.Settling.{IsLeastUp};
+ghost use Rattle.seq_graph.specs.Choice.{lesser_plain, LeastBelow};
+ghost use Rattle.seq_graph.specs.Settling.{IsLeastUp, UpBelow};
 ghost use Rattle.seq_graph.specs.Steps.{least_test as least_test_of};
 
 use crate::graph::Graph;
@@ -62,11 +63,40 @@ fn plain_sum(inst: &Instance, graph: &mut Graph, group: &Group, weight: u64, tes
 }
 
 /// The earlier choice, unless the sum of the test is less.
-fn lesser(earlier: Option<Plain>, test: u32, sum: u64) -> Plain {
+fn lesser(earlier: Option<Plain>, test: u32, sum: u64) -> Plain
+    ensures { result ≡ lesser_plain earlier test sum }
+{
     match earlier {
         Some(earlier) if earlier.sum <= sum => earlier,
         _ => Plain { test, sum },
     }
+}
+
+/// The earlier choice, or this test, which comes next.
+fn with_test(
+    inst: &Instance,
+    graph: &mut Graph,
+    group: &Group,
+    weight: u64,
+    test: u32,
+    chosen: Option<Plain>,
+) -> Option<Plain>
+    requires known { IsGraphOf inst.now graph.old }
+    requires within { IsGroupOf inst.now group.now }
+    requires weight { weight ≡ weight_sum (problem_of inst.now) (members group.now) }
+    requires there { test < vec_len inst.now.costs }
+    requires chosen { LeastBelow (problem_of inst.now) (members group.now) (step_sum (problem_of inst.now) (known_low (problem_of inst.now) (rows_from graph.old.rows.items)) (members group.now)) test chosen }
+    ensures known { IsGraphOf inst.now graph.new }
+    ensures rows { graph.new.rows ≡ graph.old.rows }
+    ensures nodes { graph.new.nodes ≡ graph.old.nodes }
+    ensures keeps { KeepsRoom graph.old graph.new }
+    ensures chosen { LeastBelow (problem_of inst.now) (members group.now) (step_sum (problem_of inst.now) (known_low (problem_of inst.now) (rows_from graph.old.rows.items)) (members group.now)) (test + 1) result }
+{
+    if splits(inst, group, test) {
+        let sum = plain_sum(inst, graph, group, weight, test);
+        return Some(lesser(chosen, test, sum));
+    }
+    chosen
 }
 
 /// The splitting test of least sum, the lowest of these.
@@ -85,10 +115,7 @@ pub(crate) fn plain_test(inst: &Instance, graph: &mut Graph, place: usize) -> Pl
     let tests = inst.costs.len() as u32;
     let mut chosen = None;
     for test in 0..tests {
-        if splits(inst, &group, test) {
-            let sum = plain_sum(inst, graph, &group, weight, test);
-            chosen = Some(lesser(chosen, test, sum));
-        }
+        chosen = with_test(inst, graph, &group, weight, test, chosen);
     }
     match chosen {
         Some(chosen) => chosen,
@@ -103,13 +130,7 @@ fn up_of(inst: &Instance, graph: &Graph, group: &Group) -> u64
 {
     match graph.numbers.find(group) {
         Some(number) => graph.counts[number as usize].up,
-        None => {
-            if is_leaf(inst, group) {
-                0
-            } else {
-                u64::MAX
-            }
-        }
+        None => { if is_leaf(inst, group) { 0 } else { u64::MAX } }
     }
 }
 
@@ -123,10 +144,35 @@ pub(crate) fn plain_up(inst: &Instance, graph: &Graph, place: usize, test: u32) 
     let parts = parts_of(inst, &graph.rows[place].group, test);
     let pass = up_of(inst, graph, &parts.pass);
     let fail = up_of(inst, graph, &parts.fail);
-    if pass == u64::MAX || fail == u64::MAX {
+    if pass == u64::MAX {
+        return u64::MAX;
+    }
+    if fail == u64::MAX {
         return u64::MAX;
     }
     u64::from(inst.costs[test as usize]) * graph.nodes[place].weight + (pass + fail)
+}
+
+/// The least so far, or what this test gives, which comes next.
+fn with_up(
+    inst: &Instance,
+    graph: &Graph,
+    place: usize,
+    group: &Group,
+    test: u32,
+    least: u64,
+) -> u64
+    requires known { IsGraphOf inst.now graph.now }
+    requires place { place < length graph.now.rows.items }
+    requires group { group.now ≡ group_at graph.now.rows.items place }
+    requires there { test < length inst.now.costs.items }
+    requires least { UpBelow (problem_of inst.now) graph.now.rows.items place test least }
+    ensures { UpBelow (problem_of inst.now) graph.now.rows.items place (test + 1) result }
+{
+    if splits(inst, group, test) {
+        return least.min(plain_up(inst, graph, place, test));
+    }
+    least
 }
 
 /// The least of greedy's cost and of the sums of all splitting tests and the ups of their parts.
@@ -139,9 +185,7 @@ pub(crate) fn plain_least_up(inst: &Instance, graph: &Graph, place: usize) -> u6
     let tests = inst.costs.len() as u32;
     let mut least = graph.nodes[place].greedy;
     for test in 0..tests {
-        if splits(inst, &group, test) {
-            least = least.min(plain_up(inst, graph, place, test));
-        }
+        least = with_up(inst, graph, place, &group, test, least);
     }
     least
 }

@@ -22,6 +22,7 @@ const ROOM_FOR_GREEDY: u32 = 4096;
 
 /// The room of most lists: tests that are evaluated, and tests that wait.
 const FEW_SPLITS: usize = 48;
+
 const FEW_WAITING: usize = 32;
 
 /// Makes room for so many more numbers, and holds room for so many groups. Where the memory is short there is
@@ -48,6 +49,21 @@ pub(crate) fn reserve_numbers(
     graph.numbers.reserve(more, held)
 }
 
+/// Makes lists for one group, where there are none. They take memory when tests are listed.
+fn make_lists(alloc: Global, lists: &mut Vec<Lists>) -> Result<(), AllocError>
+    ensures more { length lists.old.items ≤ length lists.new.items }
+    ensures some { OnOk result (1 ≤ length lists.new.items) }
+{
+    if lists.len() > 0 {
+        return Ok(());
+    }
+    lists.push(Lists {
+        splits: Vec::new(alloc),
+        waiting: Vec::new(alloc),
+    })?;
+    Ok(())
+}
+
 /// Makes room for one more group. Where the memory is short, what is known has not changed.
 pub fn grow(alloc: Global, inst: &Instance, graph: &mut Graph) -> Result<(), AllocError>
     requires known { IsGraphOf inst.now graph.old }
@@ -59,13 +75,9 @@ pub fn grow(alloc: Global, inst: &Instance, graph: &mut Graph) -> Result<(), All
 {
     graph.rows.reserve(1)?;
     graph.nodes.reserve(1)?;
-    if graph.lists.len() == 0 {
-        graph.lists.push(Lists {
-            splits: Vec::new(alloc),
-            waiting: Vec::new(alloc),
-        })?;
-    }
-    reserve_numbers(inst, graph, ROOM_FOR_GREEDY, 1)
+    make_lists(alloc, &mut graph.lists)?;
+    reserve_numbers(inst, graph, ROOM_FOR_GREEDY, 1)?;
+    Ok(())
 }
 
 /// Lists for so many groups: one of eight has room for all tests.
@@ -76,8 +88,16 @@ fn lists_for(alloc: Global, inst: &Instance, groups: u32) -> Result<Vec<Lists>, 
     let mut lists = Vec::with_capacity(alloc, groups as usize)?;
     let few = groups - groups / 8;
     for group in 0..groups {
-        let splits = if group < few { tests.min(FEW_SPLITS) } else { tests };
-        let waiting = if group < few { tests.min(FEW_WAITING) } else { tests };
+        let splits = if group < few {
+            tests.min(FEW_SPLITS)
+        } else {
+            tests
+        };
+        let waiting = if group < few {
+            tests.min(FEW_WAITING)
+        } else {
+            tests
+        };
         lists.push(Lists {
             splits: Vec::with_capacity(alloc, splits)?,
             waiting: Vec::with_capacity(alloc, waiting)?,
@@ -95,11 +115,18 @@ impl Graph {
         ensures sound { IfOk result (λ g. AreSound (problem_of inst.now) g.rows.items) }
         ensures room { IfOk result (HasRoom groups) }
     {
-        let mut graph = Graph::new(alloc, inst)?;
-        graph.growth = Growth::Fixed;
-        graph.rows.reserve(groups as usize)?;
-        graph.nodes.reserve(groups as usize)?;
-        graph.lists = lists_for(alloc, inst, groups)?;
+        let numbers = Numbers::new(alloc, inst)?;
+        let rows = Vec::with_capacity(alloc, groups as usize)?;
+        let nodes = Vec::with_capacity(alloc, groups as usize)?;
+        let lists = lists_for(alloc, inst, groups)?;
+        let mut graph = Graph {
+            numbers,
+            rows,
+            nodes,
+            counts: Vec::new(alloc),
+            lists,
+            growth: Growth::Fixed,
+        };
         let more = groups.saturating_mul(4).saturating_add(ROOM_FOR_GREEDY);
         reserve_numbers(inst, &mut graph, more, groups)?;
         Ok(graph)

@@ -5,11 +5,11 @@
 //! waits counts for the up only where both of its parts have one; so these are evaluated, and no others.
 //! All sums are looked up by number, which costs less than half of settling the same rows afresh. A row whose
 //! low and up are equal is settled as it is: what the rows' groups give lies between the two.
-ghost use Rattle.std.specs.Prelude.{◌≡◌, ◌⊎◌, ◌<◌, ◌≤◌, length, slice_set, true, IfOk};
+ghost use Rattle.std.specs.Prelude.{◌≡◌, ◌<◌, length, slice_set, IfOk};
 ghost use Rattle.seq_inst.specs.Instances.{problem_of};
 ghost use Rattle.seq_core.specs.Settled.{groups_in, size_at, settled_row, settled_rows, AreSettledBelow};
-ghost use Rattle.seq_graph.specs.Known.{AreSound, row_at, most_at, IsGraphOf};
-ghost use Rattle.seq_graph.specs.Settling.{IsLeastUp};
+ghost use Rattle.seq_graph.specs.Known.{AreSound, row_at, IsGraphOf};
+ghost use Rattle.seq_graph.specs.Settling.{IsSettledUp};
 
 use crate::bounds::{Bounds, bounds_by};
 use crate::choice::least_test;
@@ -25,7 +25,7 @@ use std::alloc::{AllocError, Global};
 fn settled_up(inst: &Instance, graph: &Graph, place: usize, up: u64, looked: bool) -> u64
     requires known { IsGraphOf inst.now graph.now }
     requires place { place < length graph.now.rows.items }
-    ensures { (result ≡ up × looked ≡ true × (row_at graph.now.rows.items place).up ≤ most_at graph.now.nodes.items place) ⊎ IsLeastUp (problem_of inst.now) graph.now.rows.items place result }
+    ensures { IsSettledUp (problem_of inst.now) graph.now.rows.items graph.now.nodes.items place looked up result }
 {
     if looked && graph.rows[place].up <= graph.nodes[place].most {
         return up;
@@ -52,7 +52,10 @@ fn settle_row(inst: &Instance, graph: &mut Graph, place: usize)
     let looked = look_at_all(inst, graph, place);
     let bounds = bounds_by(inst, graph, place, least);
     let up = settled_up(inst, graph, place, bounds.up, looked);
-    let settled = Bounds { low: bounds.low, up };
+    let settled = Bounds {
+        low: bounds.low,
+        up,
+    };
     note(inst, graph, place, settled);
 }
 

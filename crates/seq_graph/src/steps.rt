@@ -103,12 +103,7 @@ fn step_of(one: Group, one_known: Knowledge, other: Group, other_known: Knowledg
 
 /// What the walk does at a group, by its test of least sum. Of its two parts that of the first answer comes
 /// first.
-pub fn next_step(
-    inst: &Instance,
-    graph: &mut Graph,
-    place: usize,
-    first: Answer,
-) -> Step
+pub fn next_step(inst: &Instance, graph: &mut Graph, place: usize, first: Answer) -> Step
     requires known { IsGraphOf inst.now graph.old }
     requires place { place < length graph.old.rows.items }
     ensures known { IsGraphOf inst.now graph.new }

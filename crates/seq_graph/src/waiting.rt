@@ -59,12 +59,7 @@ fn make_room(inst: &Instance, graph: &mut Graph)
 
 /// Evaluates the test that waits at this place of the list, where there is room. It is then the last of the
 /// evaluated ones.
-pub(crate) fn evaluate(
-    inst: &Instance,
-    graph: &mut Graph,
-    place: usize,
-    at: usize,
-) -> Option<Split>
+pub(crate) fn evaluate(inst: &Instance, graph: &mut Graph, place: usize, at: usize) -> Option<Split>
     requires known { IsGraphOf inst.now graph.old }
     requires place { place < length graph.old.rows.items }
     requires there { at < length (waiting_at graph.old.nodes.items place) }
@@ -83,9 +78,9 @@ pub(crate) fn evaluate(
     let growth = graph.growth;
     let done = graph.nodes[place].evaluate(&mut graph.numbers, inst, &group, at, growth);
     count_new(inst, &graph.numbers, &mut graph.counts);
-    if !done {
-        return None;
+    if done {
+        let splits = graph.nodes[place].splits.as_slice();
+        return Some(splits[splits.len() - 1]);
     }
-    let splits = graph.nodes[place].splits.as_slice();
-    Some(splits[splits.len() - 1])
+    None
 }
