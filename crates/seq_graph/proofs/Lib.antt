@@ -21,4 +21,3 @@ pub mod RoomLaws
 pub mod SettleLaws
 pub mod OpenLaws
 pub mod StepLaws
-pub mod ListedLaws

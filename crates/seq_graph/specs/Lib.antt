@@ -6,7 +6,6 @@ pub mod Counts
 pub mod Sums
 pub mod Known
 pub mod Rooms
-pub mod Listed
 pub mod Looks
 pub mod Settling
 pub mod Choice

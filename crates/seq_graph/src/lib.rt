@@ -10,9 +10,9 @@
 //! An engine enters groups (`enter`), goes down by tests of least sum (`next_step`), and raises and caps the
 //! groups that it came through from what is known of their parts (`back_up`: AO*'s revision from below
 //! upwards). Before a group is entered there is room for it: made for one more (`grow`), or for all at once
-//! (`Graph::with_room`), and then nothing takes memory. Rows that were found elsewhere make a graph too (`Graph::of_rows`). At the end `settle` gives
-//! each row the low and the value that the entered groups give it together. Whatever is kept saves work, and
-//! changes no result. Here too stands the measure by which a walk ends.
+//! (`Graph::with_room`), and then nothing takes memory. At the end `settle` gives each row the low and the value
+//! that the entered groups give it together. Whatever is kept saves work, and changes no result. Here too stands
+//! the measure by which a walk ends.
 #![tactic(auto)]
 
 mod bounds;
@@ -23,7 +23,6 @@ mod finding;
 mod graph;
 mod greedy;
 mod laws;
-mod listing;
 mod look;
 mod memo;
 mod node;
