@@ -10,7 +10,7 @@ ghost use Rattle.seq_graph.specs.Behind.{AreBehind, IsPlaceOf};
 ghost use Rattle.seq_graph.specs.Known.{AreBounds, AreSound, IsGraphOf};
 ghost use Rattle.seq_finish.specs.Joining.{HasGroupsOf, IsAllowedBy, IsEnteredOnce};
 
-use seq_graph::{Bounds, Graph, add, hear, place_of};
+use seq_graph::{Bounds, Graph, add, grow, hear, place_of};
 use seq_inst::{Group, Instance, Row};
 use std::alloc::{AllocError, Global};
 
@@ -33,7 +33,8 @@ fn place_for(
     let Ok(place) = u32::try_from(graph.rows.len()) else {
         return Err(AllocError);
     };
-    add(alloc, inst, graph, group)?;
+    grow(alloc, inst, graph)?;
+    add(inst, graph, group);
     Ok(place)
 }
 
