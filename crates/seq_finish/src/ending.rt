@@ -20,7 +20,7 @@ use crate::joining::{join, settled_by};
 use crate::laws::outcomes_hold;
 use crate::places::{bounds_of, index_of};
 use crate::strategy::strategy_of;
-use seq_graph::{Graph, Numbers, settle};
+use seq_graph::{Graph, Growth, Numbers, settle};
 use seq_inst::{Group, Instance, Outcome, Row, Verdict, root};
 use std::alloc::{AllocError, Global};
 
@@ -74,7 +74,8 @@ pub fn finish(
 
 /// What `finish` makes of these rows, made from a graph that is behind them, as each worker's is behind what
 /// all workers found. What the graph has is not worked out anew: its groups' tests and greedy's costs. So the
-/// cost is that of listing the groups that it has not, and of settling.
+/// cost is that of listing the groups that it has not, and of settling. A graph that was made with room may take
+/// memory from here on.
 pub fn finish_with(
     alloc: Global,
     inst: &Instance,
@@ -98,6 +99,7 @@ pub fn finish_with(
     ensures leaves { IfOk result (λ o. leaf_count (tree_of o.strategy) ≤ vec_len inst.now.weights) }
     ensures short { IfOk result (λ o. height (tree_of o.strategy) ≤ 512) }
 {
+    graph.growth = Growth::Free;
     join(alloc, inst, &mut graph, rows.as_slice())?;
     settle(alloc, inst, &mut graph)?;
     let settled = settled_by(alloc, inst, &graph, rows.as_slice())?;
