@@ -16,12 +16,8 @@ module _ (p : Problem) (rows : List PlainRow) (group : List ℕ) where
       let first = least_of-first (greedy_cost p group) (filter_map v (splitting p group)) in
       values-at_least (least_up p rows group) (greedy_cost p group) v tests first (λ t x i e. least_of-values-le (greedy_cost p group) v t x (splitting p group) (within t i) e)
 
-  closed-value : (t : ℕ) → known_up p rows (pass_part p t group) ≡ Some (known_low p rows (pass_part p t group)) → known_up p rows (fail_part p t group) ≡ Some (known_low p rows (fail_part p t group))
+  pub closed-value : (t : ℕ) → known_up p rows (pass_part p t group) ≡ Some (known_low p rows (pass_part p t group)) → known_up p rows (fail_part p t group) ≡ Some (known_low p rows (fail_part p t group))
       → step_value p (known_up p rows) group t ≡ Some (step_sum p (known_low p rows) group t)
   closed-value t pass fail =
       ap (λ o. sum_with (p.cost t * weight_of p group) o (known_up p rows (fail_part p t group))) pass
       ∙ ap (λ o. sum_with (p.cost t * weight_of p group) (Some (known_low p rows (pass_part p t group))) o) fail
-
-  pub cap-closes : (n t : ℕ) (tests : List ℕ) → IsIn t tests → known_up p rows (pass_part p t group) ≡ Some (known_low p rows (pass_part p t group)) → known_up p rows (fail_part p t group) ≡ Some (known_low p rows (fail_part p t group))
-      → least_of (n ∷ filter_map (step_value p (known_up p rows) group) tests) ≤ step_sum p (known_low p rows) group t
-  cap-closes n t tests i pass fail = least_of-values-le n (step_value p (known_up p rows) group) t (step_sum p (known_low p rows) group t) tests i (closed-value t pass fail)

@@ -69,8 +69,8 @@ kept-narrows p v rows now r s k e rises falls kept = subst (λ (g : Group). IsKe
   weight = kept.weight;
   bound_is = kept.bound_is;
   greedy = kept.greedy;
-  tests = tests-rise p (members r.group) k.splits.items k.waiting.items v (step_sum p (known_low p (rows_from rows)) (members r.group)) (step_sum p (known_low p (rows_from now)) (members r.group)) r.up s.up kept.tests
-      (λ t. let a = rises (pass_part p t (members r.group)) in let b = rises (fail_part p t (members r.group)) in omega arith) falls;
+  tests = tests-rise p (members r.group) k.splits.items k.waiting.items v (step_sum p (known_low p (rows_from rows)) (members r.group)) (step_sum p (known_low p (rows_from now)) (members r.group)) (min r.up k.most) (min s.up k.most) kept.tests
+      (λ t. let a = rises (pass_part p t (members r.group)) in let b = rises (fail_part p t (members r.group)) in omega arith) (omega arith);
 })
 
 -- and while more groups get numbers
@@ -80,7 +80,16 @@ kept-keeps p old new rows r k keeps h = record {
   weight = h.weight;
   bound_is = h.bound_is;
   greedy = h.greedy;
-  tests = tests-keep p (members r.group) k.splits.items k.waiting.items old new (step_sum p (known_low p (rows_from rows)) (members r.group)) r.up keeps h.tests;
+  tests = tests-keep p (members r.group) k.splits.items k.waiting.items old new (step_sum p (known_low p (rows_from rows)) (members r.group)) (min r.up k.most) keeps h.tests;
+}
+
+-- what is known stays right while more is known of the numbers
+pub numbers-known : (p : Problem) (old new : Numbered) (rows : List Row) (kept : List Node) (counts : List Count) → AreKnown p old rows kept counts → AreNumbers p new → KeepsNumbers old new → new.groups ≡ old.groups → AreKnown p new rows kept counts
+numbers-known p old new rows kept counts known numbers keeps same = record {
+  rows_are = known.rows_are;
+  numbers_are = numbers;
+  kept_are = record { as_many = known.kept_are.as_many; each = λ q x e. kept-keeps p old new rows (row_at rows q) x keeps (known.kept_are.each q x e) };
+  counts_are = known.counts_are ∙ ap (map (count_of p rows)) (sym same);
 }
 
 -- at first those are left out that greedy is below, and this is a cap of the new row. Lows are no less than bounds
@@ -90,8 +99,8 @@ kept-whole p v rows r k known falls h = record {
   weight = h.weight;
   bound_is = h.bound;
   greedy = h.greedy;
-  tests = tests-rise p (members r.group) k.splits.items k.waiting.items v (step_sum p (bound p) (members r.group)) (step_sum p (known_low p (rows_from rows)) (members r.group)) (greedy_cost p (members r.group)) r.up h.tests
-      (λ t. let a = bound-le-known_low p rows known (pass_part p t (members r.group)) in let b = bound-le-known_low p rows known (fail_part p t (members r.group)) in omega arith) falls;
+  tests = tests-rise p (members r.group) k.splits.items k.waiting.items v (step_sum p (bound p) (members r.group)) (step_sum p (known_low p (rows_from rows)) (members r.group)) (min (greedy_cost p (members r.group)) k.most) (min r.up k.most) h.tests
+      (λ t. let a = bound-le-known_low p rows known (pass_part p t (members r.group)) in let b = bound-le-known_low p rows known (fail_part p t (members r.group)) in omega arith) (omega arith);
 }
 
 kept-more : (P : Row → Node → Type 0) (rows : List Row) (kept : List Node) (r : Row) (k : Node) → length kept ≡ length rows
@@ -281,10 +290,10 @@ module _ (inst : Instance) (old new : Numbered) (rows : List Row) (kept : List N
       }
 
   -- a test of a group is evaluated
-  pub evaluated-known : (place : ℕ) (k other : Node) (more : List Count) → place < length rows → k ≡ get_or kept place k → other.number ≡ k.number → other.weight ≡ k.weight → other.bound ≡ k.bound → other.greedy ≡ k.greedy
+  pub evaluated-known : (place : ℕ) (k other : Node) (more : List Count) → place < length rows → k ≡ get_or kept place k → other.number ≡ k.number → other.weight ≡ k.weight → other.bound ≡ k.bound → other.greedy ≡ k.greedy → other.most ≡ k.most
       → KeepsTests (problem_of inst) old new (members (group_at rows place)) k other → more ≡ counts ++ map (new_count (problem_of inst)) (drop (length counts) new.groups)
       → AreKnown (problem_of inst) new rows (set kept place other) more
-  evaluated-known place k other more lt read en ew eb eg tests grown =
+  evaluated-known place k other more lt read en ew eb eg em tests grown =
       let p = problem_of inst in
       let r = row_at rows place in
       let of = kept-read p old rows kept counts known place k lt read in
@@ -296,7 +305,8 @@ module _ (inst : Instance) (old new : Numbered) (rows : List Row) (kept : List N
           weight = ew ∙ of.weight;
           bound_is = eb ∙ of.bound_is;
           greedy = eg ∙ of.greedy;
-          tests = tests (step_sum p (known_low p (rows_from rows)) (members r.group)) r.up of.tests;
+          tests = subst (λ n. AreTestsOf p new (members r.group) (step_sum p (known_low p (rows_from rows)) (members r.group)) (min r.up n) other.splits.items other.waiting.items) (sym em)
+              (tests (step_sum p (known_low p (rows_from rows)) (members r.group)) (min r.up k.most) of.tests);
         });
         counts_are = counts-grown more grown;
       }
@@ -321,9 +331,9 @@ module _ (inst : Instance) (v : Numbered) (rows : List Row) (kept : List Node) (
     counts_are = known.counts_are;
   }
 
-  pub thinned-known : (prune : Node) (up : ℕ) → up ≡ (row_at rows place).up → prune.number ≡ k.number → prune.weight ≡ k.weight → prune.bound ≡ k.bound → prune.greedy ≡ k.greedy
+  pub thinned-known : (prune : Node) (up : ℕ) → up ≡ (row_at rows place).up → prune.number ≡ k.number → prune.weight ≡ k.weight → prune.bound ≡ k.bound → prune.greedy ≡ k.greedy → prune.most ≡ k.most
       → prune.splits.items ≡ filter (λ s. nat_le (counted_sum inst.costs.items k.weight counts s) up) k.splits.items → prune.waiting.items ≡ filter (λ w. nat_le w.least up) k.waiting.items → AreKnown (problem_of inst) v rows (set kept place prune) counts
-  thinned-known prune up up_is en ew eb eg splits_are waiting_are =
+  thinned-known prune up up_is en ew eb eg em splits_are waiting_are =
       let p = problem_of inst in
       let r = row_at rows place in
       let g = members r.group in
@@ -334,15 +344,15 @@ module _ (inst : Instance) (v : Numbered) (rows : List Row) (kept : List Node) (
         weight = ew ∙ of-row.weight;
         bound_is = eb ∙ of-row.bound_is;
         greedy = eg ∙ of-row.greedy;
-        tests = subst (λ n. AreTestsOf p v g f n prune.splits.items prune.waiting.items) up_is
-            (tests-left p v g f up k.splits.items prune.splits.items k.waiting.items prune.waiting.items stays (subst (λ n. AreTestsOf p v g f n k.splits.items k.waiting.items) (sym up_is) of-row.tests) (λ i d h.
+        tests = subst (λ n. AreTestsOf p v g f (min r.up n) prune.splits.items prune.waiting.items) (sym em) (subst (λ n. AreTestsOf p v g f (min n k.most) prune.splits.items prune.waiting.items) up_is
+            (tests-left p v g f k.most up k.splits.items prune.splits.items k.waiting.items prune.waiting.items stays (subst (λ n. AreTestsOf p v g f (min n k.most) k.splits.items k.waiting.items) (sym up_is) of-row.tests) (λ i d h.
             let at = split-at p v rows r k k.splits.items of-row refl i d h in
-            ap (λ n. nat_le n up) (counted-is inst v rows kept counts known place lt (get_or k.splits.items i d) k at.parts read)) splits_are waiting_are);
+            ap (λ n. nat_le n up) (counted-is inst v rows kept counts known place lt (get_or k.splits.items i d) k at.parts read)) splits_are waiting_are));
       })
 
   -- the same tests in lists of less room
-  pub fitted-known : (fit : Node) → fit.number ≡ k.number → fit.weight ≡ k.weight → fit.bound ≡ k.bound → fit.greedy ≡ k.greedy → fit.splits.items ≡ k.splits.items → fit.waiting.items ≡ k.waiting.items → AreKnown (problem_of inst) v rows (set kept place fit) counts
-  fitted-known fit en ew eb eg splits_are waiting_are =
+  pub fitted-known : (fit : Node) → fit.number ≡ k.number → fit.weight ≡ k.weight → fit.bound ≡ k.bound → fit.greedy ≡ k.greedy → fit.most ≡ k.most → fit.splits.items ≡ k.splits.items → fit.waiting.items ≡ k.waiting.items → AreKnown (problem_of inst) v rows (set kept place fit) counts
+  fitted-known fit en ew eb eg em splits_are waiting_are =
       let p = problem_of inst in
       let r = row_at rows place in
       let g = members r.group in
@@ -352,5 +362,5 @@ module _ (inst : Instance) (v : Numbered) (rows : List Row) (kept : List Node) (
         weight = ew ∙ of-row.weight;
         bound_is = eb ∙ of-row.bound_is;
         greedy = eg ∙ of-row.greedy;
-        tests = subst (λ l. AreTestsOf p v g f r.up l fit.waiting.items) (sym splits_are) (subst (AreTestsOf p v g f r.up k.splits.items) (sym waiting_are) of-row.tests);
+        tests = subst (λ n. AreTestsOf p v g f (min r.up n) fit.splits.items fit.waiting.items) (sym em) (subst (λ l. AreTestsOf p v g f (min r.up k.most) l fit.waiting.items) (sym splits_are) (subst (AreTestsOf p v g f (min r.up k.most) k.splits.items) (sym waiting_are) of-row.tests));
       })

@@ -52,7 +52,7 @@ module _ (p : Problem) (v : Numbered) (rows : List Row) (kept : List Node) (coun
       known.kept_are.each place k (slice_get_read kept (length kept) place k refl (omega arith) read)
 
 module _ (p : Problem) (v : Numbered) (rows : List Row) (kept : List Node) (counts : List Count) (known : AreKnown p v rows kept counts) where
-  value-given : (o : Option ℕ) (n : ℕ) → n ≡ value_or o → n ≢ no_value → o ≡ Some n
+  pub value-given : (o : Option ℕ) (n : ℕ) → n ≡ value_or o → n ≢ no_value → o ≡ Some n
   value-given None n e ne = absurd (ne e)
   value-given (Some u) n e ne = ap (λ m. Some m) (sym e)
 
@@ -83,7 +83,7 @@ up-of-row p rows g u n e = go (row_for (rows_from rows) g) refl (rw n at e)
     go (Some r) is up = found r is (sym (ap up_or is) ∙ up)
 
 -- it is small
-up-small : (p : Problem) (rows : List Row) → AreRows p rows → (g : List ℕ) (u : ℕ) → known_up p (rows_from rows) g ≡ Some u → u ≤ greatest_cost
+pub up-small : (p : Problem) (rows : List Row) → AreRows p rows → (g : List ℕ) (u : ℕ) → known_up p (rows_from rows) g ≡ Some u → u ≤ greatest_cost
 up-small p rows known g u e = elim (cases_Bool (is_end p g)) [
   | inl y ↦ (let h : Some 0 ≡ Some u = rw y at e in let z : 0 ≡ u = cc in omega arith)
   | inr n ↦

@@ -1,7 +1,7 @@
 -- The tests of a group of which some are evaluated and some wait. They stay covered while sums rise and the up falls, and where
 -- tests are left out of which the sum or the number is above the up. Where each number is above the least sum of the evaluated
 -- tests, the lowest test of this sum is the first of least sum of all tests that split the group.
-use Rattle.std.proofs.Common.{◌≡◌, ℕ, zero, suc, ◌<◌, ◌≤◌, List, [], ◌∷◌, length, get_or, map, refl, sym, ap, ◌∙◌, arith, inl, inr, subst}
+use Rattle.std.proofs.Common.{◌≡◌, ℕ, zero, suc, ◌<◌, ◌≤◌, min, List, [], ◌∷◌, length, get_or, map, refl, sym, ap, ◌∙◌, arith, inl, inr, subst}
 use Rattle.std.specs.Prelude.{Bool, true, false, nat_le, All, filter}
 use Rattle.std.proofs.lemmas.Bool.{cases_Bool, leb-false}
 use Rattle.std.proofs.lemmas.List.Elements.{All-filter, All-head, All-tail, All-contains}
@@ -64,14 +64,14 @@ tests-filter q h (x ∷ xs) same =
     ]
 
 -- where those are left out of which the sum or the number is above the up
-pub tests-left : (p : Problem) (v : Numbered) (group : List ℕ) (sum : ℕ → ℕ) (up : ℕ) (listed now : List Split) (waiting left : List Waiting) (q : Split → Bool) → AreTestsOf p v group sum up listed waiting
-    → ((i : ℕ) (d : Split) → i < length listed → q (get_or listed i d) ≡ nat_le (sum (get_or listed i d).test) up) → now ≡ filter q listed → left ≡ filter (λ w. nat_le w.least up) waiting → AreTestsOf p v group sum up now left
-tests-left p v group sum up listed now waiting left q h same now_is left_is =
-    subst (λ l. AreTestsOf p v group sum up l left) (sym now_is) (subst (AreTestsOf p v group sum up (filter q listed)) (sym left_is) (record {
+pub tests-left : (p : Problem) (v : Numbered) (group : List ℕ) (sum : ℕ → ℕ) (most up : ℕ) (listed now : List Split) (waiting left : List Waiting) (q : Split → Bool) → AreTestsOf p v group sum (min up most) listed waiting
+    → ((i : ℕ) (d : Split) → i < length listed → q (get_or listed i d) ≡ nat_le (sum (get_or listed i d).test) up) → now ≡ filter q listed → left ≡ filter (λ w. nat_le w.least up) waiting → AreTestsOf p v group sum (min up most) now left
+tests-left p v group sum most up listed now waiting left q h same now_is left_is =
+    subst (λ l. AreTestsOf p v group sum (min up most) l left) (sym now_is) (subst (AreTestsOf p v group sum (min up most) (filter q listed)) (sym left_is) (record {
       covers = λ t i. elim (h.covers t i) [
         | inl l ↦ elim (cases_Bool (nat_le (sum t) up)) [
           | inl y ↦ inl (subst (IsIn t) (sym (tests-filter q (λ u. nat_le (sum u) up) listed same)) (IsIn-filter (λ u. nat_le (sum u) up) t (map (λ (s : Split). s.test) listed) l y))
-          | inr n ↦ inr (inr (leb-false (sum t) up n))
+          | inr n ↦ inr (inr (let above = leb-false (sum t) up n in omega arith))
         ]
         | inr (inl b) ↦ elim (cases_Bool (nat_le (b.entry).least up)) [
           | inl y ↦ inr (inl (record { entry = b.entry; waits = waits-filter (λ w. nat_le w.least up) b.entry waiting b.waits y; test_is = b.test_is; least = b.least }))
@@ -124,19 +124,11 @@ test-listed P [] t all i = absurd i
 test-listed P (x ∷ xs) t all (inl e) = record { split = x; test_is = e; holds = All-head P x xs all }
 test-listed P (x ∷ xs) t all (inr i) = test-listed P xs t (All-tail P x xs all) i
 
-module _ (p : Problem) (v : Numbered) (group : List ℕ) (f : ℕ → ℕ) (up : ℕ) (listed : List Split) (waiting : List Waiting) (tests : AreTestsOf p v group f up listed waiting) (first : IsFirst f (splitting p group) (first_least f (splitting p group)))
+module _ (p : Problem) (v : Numbered) (group : List ℕ) (f : ℕ → ℕ) (up most : ℕ) (listed : List Split) (waiting : List Waiting) (tests : AreTestsOf p v group f (min up most) listed waiting) (first : IsFirst f (splitting p group) (first_least f (splitting p group)))
     (low : f (first_least f (splitting p group)) ≤ up) where
-  -- where no test is evaluated some test waits
-  pub some-waits : listed ≡ [] → waiting ≡ [] → ⊥
-  some-waits el ew = elim (tests.covers (first_least f (splitting p group)) first.among) [
-    | inl l ↦ subst (λ l. IsIn (first_least f (splitting p group)) (map (λ (s : Split). s.test) l)) el l
-    | inr (inl b) ↦ subst (Waits b.entry) ew b.waits
-    | inr (inr above) ↦ (let bad : ⊥ = omega arith in bad)
-  ]
-
-  -- where each number is above the least sum, the lowest test of this sum is the first
-  pub certain-first : (c : Chosen) → IsLeastOf f listed c → All (λ w. c.sum < w.least) waiting → c.split.test ≡ first_least f (splitting p group)
-  certain-first c is above =
+  -- where each number is above the least sum, and all tests up to this sum are listed, the lowest test of this sum is the first
+  pub certain-first : (c : Chosen) → IsLeastOf f listed c → All (λ w. c.sum < w.least) waiting → c.sum ≤ most → c.split.test ≡ first_least f (splitting p group)
+  certain-first c is above within =
       let here : IsIn c.split.test (splitting p group) = All-contains (λ (s : Split). IsIn s.test (splitting p group)) listed c.split tests.splits_are is.among in
       let le = least_of-le f c.split.test (splitting p group) here in
       let least = first.least in

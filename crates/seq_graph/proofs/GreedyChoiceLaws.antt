@@ -21,7 +21,7 @@ use Rattle.seq_theory.proofs.BelowLaws.{product-le}
 use Rattle.seq_theory.proofs.GreedyParts.{greedy_parts}
 use Rattle.seq_graph.specs.declared.greedy.Chosen.{Chosen}
 use Rattle.seq_graph.specs.GreedyChoice.{IsNoLater, IsTestWithSum, evaluated}
-use Rattle.seq_graph.specs.Numbered.{Numbered, capacity, AreNumbers, KeepsNumbers}
+use Rattle.seq_graph.specs.Numbered.{Numbered, KeepsNumberRoom, AreNumbers, KeepsNumbers}
 
 -- ---- which comes first ----
 
@@ -78,6 +78,10 @@ first-pick f (x ∷ y ∷ rest) c i up all = elim i [
       let under : f m < f x = subst (λ k. f k < f x) same lt in
       same ∙ sym (ap (λ b. cond b x m) (lt-leb (f x) (f m) under)))
 ]
+
+-- so it is with the tests that split a group
+pub first-pick-up : (p : Problem) (group : List ℕ) (f : ℕ → ℕ) (c : ℕ) → IsIn c (splitting p group) → ((t : ℕ) → IsIn t (splitting p group) → IsNoLater (record { test = c; sum = f c }) (record { test = t; sum = f t })) → c ≡ first_least f (splitting p group)
+first-pick-up p group f c i all = first-pick f (splitting p group) c i (upward-filter (splits p group) 0 p.tests) all
 
 pub splitting-in : (p : Problem) (group : List ℕ) (t : ℕ) → t < p.tests → splits p group t ≡ true → IsIn t (splitting p group)
 splitting-in p group t there e = IsIn-filter (splits p group) t (count_up 0 p.tests) (IsIn-count_up t 0 p.tests (omega arith) (omega arith)) e
@@ -152,11 +156,14 @@ module _ (p : Problem) (group : List ℕ) where
 
 -- ---- the loop over the tests ----
 
+pub number_room-both : (a b c : Numbered) → KeepsNumberRoom a b → KeepsNumberRoom b c → KeepsNumberRoom a c
+number_room-both a b c ab bc = record { all = bc.all ∙ ab.all; held = bc.held ∙ ab.held }
+
 -- what is chosen comes no later than the tests below a number
 pub record FirstSoFar (p : Problem) (group : List ℕ) (before v : Numbered) (k : ℕ) (c : Chosen) : Type 0 where
   pub numbers : AreNumbers p v
   pub keeps : KeepsNumbers before v
-  pub capacity : capacity v ≡ capacity before
+  pub room : KeepsNumberRoom before v
   pub is : IsTestWithSum p group c
   pub each : (t : ℕ) → t < k → splits p group t ≡ true → IsNoLater c (evaluated p group t)
 
@@ -164,17 +171,17 @@ pub first-none : (p : Problem) (group : List ℕ) (v : Numbered) (c : Chosen) �
 first-none p group v c are is = record {
   numbers = are;
   keeps = λ g n e. e;
-  capacity = refl;
+  room = record { all = refl; held = refl };
   is = is;
   each = λ t lt. absurd (let bad : ⊥ = omega arith in bad);
 }
 
-pub first-more : (p : Problem) (group : List ℕ) (before old new : Numbered) (k : ℕ) (c d : Chosen) → FirstSoFar p group before old k c → AreNumbers p new → KeepsNumbers old new → capacity new ≡ capacity old → IsTestWithSum p group d → IsNoLater d c
+pub first-more : (p : Problem) (group : List ℕ) (before old new : Numbered) (k : ℕ) (c d : Chosen) → FirstSoFar p group before old k c → AreNumbers p new → KeepsNumbers old new → KeepsNumberRoom old new → IsTestWithSum p group d → IsNoLater d c
     → (splits p group k ≡ true → IsNoLater d (evaluated p group k)) → FirstSoFar p group before new (k + 1) d
 first-more p group before old new k c d i are keeps same is dc last = record {
   numbers = are;
   keeps = λ g n e. keeps g n (i.keeps g n e);
-  capacity = same ∙ i.capacity;
+  room = number_room-both before old new i.room same;
   is = is;
   each = λ t lt s. elim (cases_lt t k) [
     | inl l ↦ no_later-both d c (evaluated p group t) dc (i.each t l s)

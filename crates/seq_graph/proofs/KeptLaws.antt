@@ -6,11 +6,12 @@ use Rattle.std.proofs.lemmas.List.{map-append}
 use Rattle.std.proofs.lemmas.List.Elements.{All-head, All-tail, All-nil, All-push, All-weaker, All-filter}
 use Rattle.std.proofs.lemmas.List.Sorted.{IsPermutation-swap_remove, All-permutation, Contains-permutation}
 use Rattle.std.proofs.lemmas.Option.{slice_get-get_or, slice_get_within}
-use Rattle.seq_theory.specs.Problem.{Problem, IsIn, splits, splitting, pass_part, fail_part, count_up, is_end}
+use Rattle.seq_theory.specs.Problem.{Problem, IsIn, splits, splitting, pass_part, fail_part, count_up, is_end, weight_of, IsWithin}
 use Rattle.seq_theory.specs.Bound.{bound, step_sum}
-use Rattle.seq_theory.specs.Greedy.{first_least, greedy_cost}
+use Rattle.seq_theory.specs.Greedy.{first_least}
 use Rattle.seq_theory.proofs.GroupLaws.{IsIn-filter, filter-IsIn, filter_passes, length-two_filters, pass_part_smaller, fail_part_smaller}
 use Rattle.seq_theory.proofs.LeastLaws.{IsIn-count_up, count_up-IsIn}
+use Rattle.seq_theory.proofs.BelowLaws.{product-le}
 use Rattle.seq_inst.specs.declared.group.Group.{Group}
 use Rattle.seq_inst.specs.declared.instance.Instance.{Instance}
 use Rattle.seq_inst.specs.Members.{members}
@@ -19,7 +20,7 @@ use Rattle.seq_graph.specs.declared.node.Node.{Node}
 use Rattle.seq_graph.specs.declared.node.Split.{Split}
 use Rattle.seq_graph.specs.declared.node.Waiting.{Waiting}
 use Rattle.seq_graph.specs.Numbered.{Numbered, KeepsNumbers}
-use Rattle.seq_graph.specs.KeptOf.{HasParts, Waits, IsBelow, IsCovered, AreTestsOf, EvaluatesAt, KeepsTests}
+use Rattle.seq_graph.specs.KeptOf.{HasParts, Waits, IsBelow, IsCovered, AreTestsOf, EvaluatesAt, KeepsTests, WaitingSoFar}
 
 -- ---- entries of a list ----
 
@@ -74,11 +75,6 @@ listed-last t (x ∷ xs) = inr (listed-last t xs)
 
 -- ---- the loop over the tests ----
 
--- each splitting test below a number waits with at most its sum, or its sum is above the up; and no other test waits
-pub record WaitingSoFar (p : Problem) (group : List ℕ) (sum : ℕ → ℕ) (up test : ℕ) (waiting : List Waiting) : Type 0 where
-  pub covers : (t : ℕ) → t < test → splits p group t ≡ true → IsBelow sum waiting t ⊎ (up < sum t)
-  pub are : All (λ w. (w.test < test) × (splits p group w.test ≡ true)) waiting
-
 module _ (p : Problem) (group : List ℕ) (sum : ℕ → ℕ) (up : ℕ) where
   pub waiting-none : (found : List Waiting) → found ≡ [] → WaitingSoFar p group sum up 0 found
   waiting-none found e = record {
@@ -115,6 +111,23 @@ module _ (p : Problem) (group : List ℕ) (sum : ℕ → ℕ) (up : ℕ) where
     ];
     are = more-are test found i.are;
   })
+
+  -- a test that is left out, as its sum is above the up
+  pub waiting-left : (test : ℕ) (found more : List Waiting) → WaitingSoFar p group sum up test found → up < sum test → more ≡ found → WaitingSoFar p group sum up (test + 1) more
+  waiting-left test found more i above e = subst (WaitingSoFar p group sum up (test + 1)) (sym e) (record {
+    covers = λ t below s. elim (cases_lt t test) [
+      | inl earlier ↦ i.covers t earlier s
+      | inr later ↦ (let same : test ≡ t = omega arith in inr (subst (λ n. up < sum n) same above))
+    ];
+    are = more-are test found i.are;
+  })
+
+  -- where the up falls
+  pub waiting-lower : (down test : ℕ) (found : List Waiting) → down ≤ up → WaitingSoFar p group sum up test found → WaitingSoFar p group sum down test found
+  waiting-lower down test found falls i = record {
+    covers = λ t lt s. elim (i.covers t lt s) [ inl b ↦ inl b | inr above ↦ inr (omega arith) ];
+    are = i.are;
+  }
 
   pub waiting-same : (test : ℕ) (found more : List Waiting) → WaitingSoFar p group sum up test found → splits p group test ≡ false → more ≡ found → WaitingSoFar p group sum up (test + 1) more
   waiting-same test found more i other e = subst (WaitingSoFar p group sum up (test + 1)) (sym e) (record {
@@ -224,6 +237,11 @@ module _ (p : Problem) (group : List ℕ) where
     splits_are = h.splits_are;
     waiting_are = h.waiting_are;
   }
+
+  -- where nothing but the numbers changes
+  pub same-keeps : (before after : Numbered) (old new : Node) → KeepsNumbers before after → new.splits.items ≡ old.splits.items → new.waiting.items ≡ old.waiting.items → KeepsTests p before after group old new
+  same-keeps before after old new keeps splits_are waiting_are sum up h =
+      subst (λ l. AreTestsOf p after group sum up l new.waiting.items) (sym splits_are) (subst (AreTestsOf p after group sum up old.splits.items) (sym waiting_are) (tests-numbered before after sum up old.splits.items old.waiting.items keeps h))
 
   -- where the sums rise and the up falls
   pub tests-risen : (v : Numbered) (sum more : ℕ → ℕ) (up down : ℕ) (listed : List Split) (waiting : List Waiting) → ((t : ℕ) → sum t ≤ more t) → down ≤ up
@@ -337,9 +355,9 @@ module _ (p : Problem) (v : Numbered) (group : List ℕ) (sum : ℕ → ℕ) (up
       ])
 
 -- no test splits a group of one goal, so nothing need be listed
-pub tests-none : (inst : Instance) (g : Group) (v : Numbered) → is_end (problem_of inst) (members g) ≡ true → (listed : List Split) (waiting : List Waiting) → listed ≡ [] → waiting ≡ []
-    → AreTestsOf (problem_of inst) v (members g) (step_sum (problem_of inst) (bound (problem_of inst)) (members g)) (greedy_cost (problem_of inst) (members g)) listed waiting
-tests-none inst g v end listed waiting none none_wait =
+pub tests-none : (inst : Instance) (g : Group) (v : Numbered) (up : ℕ) → is_end (problem_of inst) (members g) ≡ true → (listed : List Split) (waiting : List Waiting) → listed ≡ [] → waiting ≡ []
+    → AreTestsOf (problem_of inst) v (members g) (step_sum (problem_of inst) (bound (problem_of inst)) (members g)) up listed waiting
+tests-none inst g v up end listed waiting none none_wait =
     let p = problem_of inst in
     let one = leb-true (length (members g)) 1 (inst.stands.ends g ∙ end) in
     record {
@@ -353,3 +371,13 @@ tests-none inst g v end listed waiting none none_wait =
       splits_are = subst (All (λ (s : Split). IsIn s.test (splitting p (members g)))) (sym none) (All-nil (λ (s : Split). IsIn s.test (splitting p (members g))));
       waiting_are = subst (All (λ (w : Waiting). IsIn w.test (splitting p (members g)))) (sym none_wait) (All-nil (λ (w : Waiting). IsIn w.test (splitting p (members g))));
     }
+
+-- each sum of a test that splits a group is more than 0, as costs and weights are
+pub sum-positive : (inst : Instance) (l : List ℕ → ℕ) (group : List ℕ) (t : ℕ) → IsWithin (problem_of inst) group → t < (problem_of inst).tests → splits (problem_of inst) group t ≡ true → 0 < step_sum (problem_of inst) l group t
+sum-positive inst l [] t within there split = absurd (let lt = pass_part_smaller (problem_of inst) t [] split in let bad : ⊥ = omega arith in bad)
+sum-positive inst l (c ∷ rest) t within there split =
+    let p = problem_of inst in
+    let weight = inst.stands.weighed.positive c (within c (inl refl)) in
+    let cost = (inst.valid.costs t there).0 in
+    let product = product-le 1 1 (p.cost t) (weight_of p (c ∷ rest)) cost (omega arith) in
+    omega arith

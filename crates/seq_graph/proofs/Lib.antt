@@ -16,6 +16,8 @@ pub mod BoundsLaws
 pub mod EventLaws
 pub mod TightenLaws
 pub mod LookLaws
+pub mod PlainLaws
+pub mod RoomLaws
 pub mod SettleLaws
 pub mod OpenLaws
 pub mod StepLaws

@@ -22,7 +22,7 @@ cases_place None = inl refl
 cases_place (Some k) = inr (k, refl)
 
 module _ (p : Problem) (v : Numbered) (rows : List Row) (kept : List Node) (counts : List Count) (known : AreKnown p v rows kept counts) where
-  no-number : (g : List ℕ) → is_entered v.groups g ≡ false → row_for (rows_from rows) g ≡ None
+  pub no-number : (g : List ℕ) → is_entered v.groups g ≡ false → row_for (rows_from rows) g ≡ None
   no-number g none = elim (cases_place (place_of_group (rows_from rows) g)) [
     | inl absent ↦ place-none rows g absent
     | inr found ↦

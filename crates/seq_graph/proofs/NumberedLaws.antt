@@ -152,26 +152,26 @@ pub number-more : (v : Numbered) (group : List ℕ) (b n : ℕ) → n ≡ length
 number-more v group b n e = ap (slice_get (v.groups ++ group ∷ [])) e ∙ get-last v.groups group
 
 -- the table's entries and what is kept of greedy, as they are seen
-abbrev pub numbered_from : BoundMemo → List (List ℕ × ℕ) → List (Option Greedy) → ℕ → Numbered
-numbered_from memo entries greedy room = record { memo = memo; groups = map classes_of (keys_of entries); bounds = values_of entries; greedy = greedy; room = room }
+abbrev pub numbered_from : BoundMemo → List (List ℕ × ℕ) → List (Option Greedy) → (room held : ℕ) → Numbered
+numbered_from memo entries greedy room held = record { memo = memo; groups = map classes_of (keys_of entries); bounds = values_of entries; greedy = greedy; room = room; held = held }
 
-abbrev numbered : BoundMemo → List (List ℕ) → List ℕ → List (Option Greedy) → ℕ → Numbered
-numbered memo groups bounds greedy room = record { memo = memo; groups = groups; bounds = bounds; greedy = greedy; room = room }
+abbrev numbered : BoundMemo → List (List ℕ) → List ℕ → List (Option Greedy) → (room held : ℕ) → Numbered
+numbered memo groups bounds greedy room held = record { memo = memo; groups = groups; bounds = bounds; greedy = greedy; room = room; held = held }
 
 -- with one more entry
-pub view-more : (memo : BoundMemo) (old new : List (List ℕ × ℕ)) (words : List ℕ) (b : ℕ) (greedy more : List (Option Greedy)) (room : ℕ) → new ≡ old ++ (words, b) ∷ [] → more ≡ greedy ++ None ∷ [] → (v : Numbered)
-    → numbered_from memo old greedy room ≡ v → numbered_from memo new more (room - 1) ≡ with_group v (classes_of words) b
-view-more memo old new words b greedy more room e m v is =
+pub view-more : (memo : BoundMemo) (old new : List (List ℕ × ℕ)) (words : List ℕ) (b : ℕ) (greedy more : List (Option Greedy)) (room held : ℕ) → new ≡ old ++ (words, b) ∷ [] → more ≡ greedy ++ None ∷ [] → (v : Numbered)
+    → numbered_from memo old greedy room held ≡ v → numbered_from memo new more (room - 1) held ≡ with_group v (classes_of words) b
+view-more memo old new words b greedy more room held e m v is =
     let groups : map classes_of (keys_of new) ≡ map classes_of (keys_of old) ++ classes_of words ∷ [] = ap (map classes_of) (keys-more old new words b e) ∙ map-append classes_of (keys_of old) (words ∷ []) in
     let bounds : values_of new ≡ values_of old ++ b ∷ [] = values-more old new words b e in
-    ap (λ l. numbered memo l (values_of new) more (room - 1)) groups
-    ∙ ap (λ l. numbered memo (map classes_of (keys_of old) ++ classes_of words ∷ []) l more (room - 1)) bounds
-    ∙ ap (λ l. numbered memo (map classes_of (keys_of old) ++ classes_of words ∷ []) (values_of old ++ b ∷ []) l (room - 1)) m
+    ap (λ l. numbered memo l (values_of new) more (room - 1) held) groups
+    ∙ ap (λ l. numbered memo (map classes_of (keys_of old) ++ classes_of words ∷ []) l more (room - 1) held) bounds
+    ∙ ap (λ l. numbered memo (map classes_of (keys_of old) ++ classes_of words ∷ []) (values_of old ++ b ∷ []) l (room - 1) held) m
     ∙ ap (λ (u : Numbered). with_group u (classes_of words) b) is
 
 -- more room, and nothing else
-pub numbers-room : (p : Problem) (v : Numbered) (room : ℕ) → AreNumbers p v → AreNumbers p (record v { room = room })
-numbers-room p v room are = record {
+pub numbers-room : (p : Problem) (v : Numbered) (room held : ℕ) → AreNumbers p v → AreNumbers p (record v { room = room; held = held })
+numbers-room p v room held are = record {
   memo = are.memo;
   distinct = are.distinct;
   within = are.within;
@@ -180,12 +180,12 @@ numbers-room p v room are = record {
   greedy = λ group g h. are.greedy group g (record { number = h.number; has = h.has; kept = h.kept });
 }
 
-pub numbers-reserved : (p : Problem) (memo : BoundMemo) (old new : List (List ℕ × ℕ)) (greedy kept : List (Option Greedy)) (room more : ℕ) (v : Numbered) → new ≡ old → kept ≡ greedy → numbered_from memo old greedy room ≡ v
-    → AreNumbers p v → AreNumbers p (numbered_from memo new kept more)
-numbers-reserved p memo old new greedy kept room more v e f is are =
-    subst (λ l. AreNumbers p (numbered_from memo l kept more)) (sym e)
-    (subst (λ l. AreNumbers p (numbered_from memo old l more)) (sym f)
-    (numbers-room p (numbered_from memo old greedy room) more (subst (AreNumbers p) (sym is) are)))
+pub numbers-reserved : (p : Problem) (memo : BoundMemo) (old new : List (List ℕ × ℕ)) (greedy kept : List (Option Greedy)) (room held more hold : ℕ) (v : Numbered) → new ≡ old → kept ≡ greedy → numbered_from memo old greedy room held ≡ v
+    → AreNumbers p v → AreNumbers p (numbered_from memo new kept more hold)
+numbers-reserved p memo old new greedy kept room held more hold v e f is are =
+    subst (λ l. AreNumbers p (numbered_from memo l kept more hold)) (sym e)
+    (subst (λ l. AreNumbers p (numbered_from memo old l more hold)) (sym f)
+    (numbers-room p (numbered_from memo old greedy room held) more hold (subst (AreNumbers p) (sym is) are)))
 
 -- another memo of the problem, and nothing else
 pub numbers-memo : (p : Problem) (v : Numbered) (memo : BoundMemo) → IsMemoOf p memo → AreNumbers p v → AreNumbers p (record v { memo = memo })

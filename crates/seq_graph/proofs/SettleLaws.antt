@@ -3,6 +3,7 @@
 -- evaluated, or else greedy costs no more. For a test that was left out gives more than the row's up, which is no less than the
 -- value, and one that waits has a part without a value.
 use Rattle.std.proofs.Common.{◌≡◌, ℕ, zero, suc, ◌+◌, ◌*◌, ◌<◌, ◌≤◌, min, List, [], ◌∷◌, length, length-set, map, set, slice_get, slice_index, get_or-set_same, get_or-set_other, refl, sym, ap, ◌∙◌, arith, inl, inr, subst, Some, None}
+use Rattle.std.specs.Prelude.{Bool, true}
 use Rattle.std.specs.List.{filter_map}
 use Rattle.seq_theory.specs.Problem.{Problem, least_of, IsIn, IsWithin, pass_part, fail_part, fails, splitting, weight_of}
 use Rattle.seq_theory.specs.Bound.{step_sum}
@@ -13,7 +14,7 @@ use Rattle.seq_theory.proofs.GroupLaws.{pass_part_smaller, fail_part_smaller}
 use Rattle.seq_theory.proofs.GreedyLaws.{part-within}
 use Rattle.seq_theory.proofs.PartsRecursion.{splitting-splits}
 use Rattle.seq_theory.proofs.LowLaws.{low-le-least}
-use Rattle.seq_theory.proofs.ValLaws.{val-entered, least-le-val, least_of-first, least_of-values-le, IsLeastValue, is_first, is_at, least_value, values-at_least, sum_with-parts}
+use Rattle.seq_theory.proofs.ValLaws.{val-entered, least-le-val, least_of-first, least_of-values-le, IsLeastValue, is_first, is_at, least_value, sum_with-parts}
 use Rattle.seq_theory.proofs.CountedLaws.{counted-length, counted-below}
 use Rattle.seq_inst.specs.declared.group.Group.{Group}
 use Rattle.seq_inst.specs.declared.instance.Instance.{Instance}
@@ -29,17 +30,12 @@ use Rattle.seq_core.specs.RowsOf.{row_of as row_from, rows_of as rows_from}
 use Rattle.seq_core.specs.Settled.{groups_in, value_or, size_at, settled_row, IsTurnOf}
 use Rattle.seq_graph.proofs.KeptLaws.{all-waits}
 use Rattle.seq_graph.specs.declared.graph.Count.{Count}
-use Rattle.seq_graph.specs.Known.{AreRows, AreSound, AreKnown, IsClosedAt, heard, no_row, row_at, group_at, splits_in, splits_at, waiting_in, waiting_at}
+use Rattle.seq_graph.specs.Known.{AreRows, AreSound, AreKnown, Allow, IsClosedAt, heard, no_row, row_at, group_at, splits_in, splits_at, waiting_in, waiting_at, most_in, most_at}
 use Rattle.seq_graph.specs.Looks.{NoneIsValued}
-use Rattle.seq_graph.specs.Settling.{evaluated_up}
+use Rattle.seq_graph.specs.Settling.{evaluated_up, IsSettledUp}
 use Rattle.seq_graph.proofs.KnownLaws.{row-real, row-within}
 use Rattle.seq_graph.proofs.RowLaws.{row-among, row-entered}
 use Rattle.seq_graph.proofs.SplitLaws.{kept-there}
-use Rattle.seq_graph.proofs.CoverLaws.{test-listed}
-
--- the row of the place, raised to what all tests give, and capped by those that are evaluated
-abbrev tightened_row : Problem → List Row → List Node → ℕ → Row
-tightened_row p rows kept place = heard (most_low p (rows_from rows) (members (group_at rows place))) (evaluated_up p rows kept place) (row_at rows place)
 
 none-some : (n : ℕ) → None ≡ Some n → ⊥
 none-some n e = let bad : ⊥ = cc in bad
@@ -69,58 +65,65 @@ module _ (inst : Instance) (v : Numbered) (rows : List Row) (kept : List Node) (
       let s = parts.sum in
       omega arith
 
-  -- a test that gives a value is evaluated, or gives more than the row's up
-  capped-at : (k : Node) → slice_get kept place ≡ Some k → NoneIsValued (problem_of inst) rows kept place → (t n : ℕ) → IsIn t (splitting (problem_of inst) (members (group_at rows place)))
-      → step_value (problem_of inst) (known_up (problem_of inst) (rows_from rows)) (members (group_at rows place)) t ≡ Some n → min (row_at rows place).up (evaluated_up (problem_of inst) rows kept place) ≤ n
-  capped-at k at none t n it is =
-      let p = problem_of inst in
-      let g = members (group_at rows place) in
-      let f = step_value p (known_up p (rows_from rows)) g in
-      let of = known.kept_are.each place k at in
-      elim (of.tests.covers t it) [
-        | inl l ↦
-            (let here = subst (λ l. IsIn t (map (λ (s : Split). s.test) l)) (sym (ap splits_in at)) l in
-            let least = least_of-values-le (greedy_cost p g) f t n (map (λ (s : Split). s.test) (splits_at kept place)) here is in
-            omega arith)
-        | inr (inl b) ↦ absurd (none-some n (sym (all-waits (λ (w : Waiting). f w.test ≡ None) b.entry (waiting_at kept place) none (subst (λ l. Waits b.entry l) (sym (ap waiting_in at)) b.waits)) ∙ ap f b.test_is ∙ is))
-        | inr (inr above) ↦ (let a = sum-le-value t n it is in omega arith)
-      ]
+  -- the up is no more than what the evaluated tests give, and all tests are listed of which the sum is at most the row's up
+  module _ (up : ℕ) (le : up ≤ evaluated_up (problem_of inst) rows kept place) (listed : (row_at rows place).up ≤ most_at kept place) (none : NoneIsValued (problem_of inst) rows kept place) where
+    -- a test that gives a value is evaluated, or gives more than the row's up
+    capped-at : (k : Node) → slice_get kept place ≡ Some k → (t n : ℕ) → IsIn t (splitting (problem_of inst) (members (group_at rows place)))
+        → step_value (problem_of inst) (known_up (problem_of inst) (rows_from rows)) (members (group_at rows place)) t ≡ Some n → min (row_at rows place).up up ≤ n
+    capped-at k at t n it is =
+        let p = problem_of inst in
+        let g = members (group_at rows place) in
+        let f = step_value p (known_up p (rows_from rows)) g in
+        let of = known.kept_are.each place k at in
+        elim (of.tests.covers t it) [
+          | inl l ↦
+              (let here = subst (λ l. IsIn t (map (λ (s : Split). s.test) l)) (sym (ap splits_in at)) l in
+              let least = least_of-values-le (greedy_cost p g) f t n (map (λ (s : Split). s.test) (splits_at kept place)) here is in
+              omega arith)
+          | inr (inl b) ↦ absurd (none-some n (sym (all-waits (λ (w : Waiting). f w.test ≡ None) b.entry (waiting_at kept place) none (subst (λ l. Waits b.entry l) (sym (ap waiting_in at)) b.waits)) ∙ ap f b.test_is ∙ is))
+          | inr (inr above) ↦ (let a = sum-le-value t n it is in let most = ap most_in at in omega arith)
+        ]
 
-  capped-most : NoneIsValued (problem_of inst) rows kept place → (n : ℕ) → IsLeastValue (greedy_cost (problem_of inst) (members (group_at rows place))) (step_value (problem_of inst) (known_up (problem_of inst) (rows_from rows)) (members (group_at rows place))) (splitting (problem_of inst) (members (group_at rows place))) n
-      → min (row_at rows place).up (evaluated_up (problem_of inst) rows kept place) ≤ n
-  capped-most none n (is_first e) =
-      let p = problem_of inst in
-      let g = members (group_at rows place) in
-      let first = least_of-first (greedy_cost p g) (filter_map (step_value p (known_up p (rows_from rows)) g) (map (λ (s : Split). s.test) (splits_at kept place))) in
-      omega arith
-  capped-most none n (is_at t i e) = let long = known.kept_are.as_many in let k = kept-there kept place (omega arith) in capped-at k.0 k.1 none t n i e
+    capped-most : (n : ℕ) → IsLeastValue (greedy_cost (problem_of inst) (members (group_at rows place))) (step_value (problem_of inst) (known_up (problem_of inst) (rows_from rows)) (members (group_at rows place))) (splitting (problem_of inst) (members (group_at rows place))) n
+        → min (row_at rows place).up up ≤ n
+    capped-most n (is_first e) =
+        let p = problem_of inst in
+        let g = members (group_at rows place) in
+        let first = least_of-first (greedy_cost p g) (filter_map (step_value p (known_up p (rows_from rows)) g) (map (λ (s : Split). s.test) (splits_at kept place))) in
+        omega arith
+    capped-most n (is_at t i e) = let long = known.kept_are.as_many in let k = kept-there kept place (omega arith) in capped-at k.0 k.1 t n i e
 
-  evaluated-least : least_up (problem_of inst) (rows_from rows) (members (group_at rows place)) ≤ evaluated_up (problem_of inst) rows kept place
-  evaluated-least =
-      let p = problem_of inst in
-      let g = members (group_at rows place) in
-      let f = step_value p (known_up p (rows_from rows)) g in
-      let long = known.kept_are.as_many in
-      let k = kept-there kept place (omega arith) in
-      let of = known.kept_are.each place k.0 k.1 in
-      let first = least_of-first (greedy_cost p g) (filter_map f (splitting p g)) in
-      values-at_least (least_up p (rows_from rows) g) (greedy_cost p g) f (map (λ (s : Split). s.test) (splits_at kept place)) first (λ t n i e.
-      let h = test-listed (λ (s : Split). IsIn s.test (splitting p g)) (k.0).splits.items t of.tests.splits_are (subst (λ l. IsIn t (map (λ (s : Split). s.test) l)) (ap splits_in k.1) i) in
-      least_of-values-le (greedy_cost p g) f t n (splitting p g) (subst (λ m. IsIn m (splitting p g)) h.test_is h.holds) e)
+    no-more : min (row_at rows place).up up ≤ least_up (problem_of inst) (rows_from rows) (members (group_at rows place))
+    no-more =
+        let p = problem_of inst in
+        let g = members (group_at rows place) in
+        capped-most (least_up p (rows_from rows) g) (least_value (greedy_cost p g) (step_value p (known_up p (rows_from rows)) g) (splitting p g))
 
-  pub tightened-settled : NoneIsValued (problem_of inst) rows kept place → tightened_row (problem_of inst) rows kept place ≡ settled_row (problem_of inst) (groups_in rows) (row_at rows place)
-  tightened-settled none =
+  settled-between : (up : ℕ) → least_up (problem_of inst) (rows_from rows) (members (group_at rows place)) ≤ up → min (row_at rows place).up up ≤ least_up (problem_of inst) (rows_from rows) (members (group_at rows place))
+      → heard (most_low (problem_of inst) (rows_from rows) (members (group_at rows place))) up (row_at rows place) ≡ settled_row (problem_of inst) (groups_in rows) (row_at rows place)
+  settled-between up no_less no_more =
       let p = problem_of inst in
       let g = members (group_at rows place) in
-      let least = least_up p (rows_from rows) g in
       let low_is = turn.raised in
-      let up = turn.capped in
+      let capped = turn.capped in
       let value = ap value_or turn.value in
-      let no_less = evaluated-least in
-      let no_more = capped-most none least (least_value (greedy_cost p g) (step_value p (known_up p (rows_from rows)) g) (splitting p g)) in
-      let up_is : min (row_at rows place).up (evaluated_up p rows kept place) ≡ value_or (val p (groups_in rows) g) = omega arith in
-      ap (λ n. record { group = group_at rows place; low = n; up = min (row_at rows place).up (evaluated_up p rows kept place) }) low_is
+      let up_is : min (row_at rows place).up up ≡ value_or (val p (groups_in rows) g) = omega arith in
+      ap (λ n. record { group = group_at rows place; low = n; up = min (row_at rows place).up up }) low_is
       ∙ ap (λ n. record { group = group_at rows place; low = low p (groups_in rows) g; up = n }) up_is
+
+  -- the up of all tests that were looked at, or of all tests
+  pub tightened-settled : (looked : Bool) (before up : ℕ) → (looked ≡ true → NoneIsValued (problem_of inst) rows kept place) → least_up (problem_of inst) (rows_from rows) (members (group_at rows place)) ≤ before → before ≤ evaluated_up (problem_of inst) rows kept place
+      → IsSettledUp (problem_of inst) rows kept place looked before up
+      → heard (most_low (problem_of inst) (rows_from rows) (members (group_at rows place))) up (row_at rows place) ≡ settled_row (problem_of inst) (groups_in rows) (row_at rows place)
+  tightened-settled looked before up none no_less le (inl at) =
+      let same = at.0 in
+      settled-between up (omega arith) (no-more up (omega arith) (at.1).listed (none (at.1).looked_at))
+  tightened-settled looked before up none no_less le (inr is) = settled-between up (omega arith) (omega arith)
+
+-- what a row is capped to is allowed
+pub settled-allowed : (p : Problem) (rows : List Row) (kept : List Node) (place : ℕ) (looked : Bool) (raise before up : ℕ) → Allow p rows (members (group_at rows place)) raise before → IsSettledUp p rows kept place looked before up → Allow p rows (members (group_at rows place)) raise up
+settled-allowed p rows kept place looked raise before up allow (inl at) = let same = at.0 in let a = allow.up_allowed in record { low_allowed = allow.low_allowed; up_allowed = omega arith }
+settled-allowed p rows kept place looked raise before up allow (inr is) = record { low_allowed = allow.low_allowed; up_allowed = omega arith }
 
 -- ---- a row whose low and up are equal ----
 

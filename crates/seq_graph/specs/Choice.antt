@@ -1,8 +1,10 @@
 -- The evaluated test of least sum, the lowest of these; when it is certain; and the lesser of a number and a value.
-use Rattle.std.specs.Prelude.{◌≡◌, ◌⊎◌, ℕ, ◌<◌, ◌≤◌, cond, nat_le, nat_lt, nat_eq, ◌&&◌, ◌||◌, min, length, slice_index_or, All, Contains, List, [], Option, Some, None}
+use Rattle.std.specs.Prelude.{◌≡◌, ◌⊎◌, true, ℕ, ◌<◌, ◌≤◌, cond, nat_le, nat_lt, nat_eq, ◌&&◌, ◌||◌, min, length, slice_index_or, All, Contains, List, [], Option, Some, None}
+use Rattle.seq_theory.specs.Problem.{Problem, IsIn, splits, splitting}
 use Rattle.seq_graph.specs.declared.node.Split.{Split}
 use Rattle.seq_graph.specs.declared.node.Waiting.{Waiting}
 use Rattle.seq_graph.specs.declared.choice.Chosen.{Chosen}
+use Rattle.seq_graph.specs.declared.plain.Plain.{Plain}
 
 -- the earlier choice, unless the new sum is less, or no more and its test lower
 abbrev pub lesser_split : Option Chosen → Split → ℕ → Chosen
@@ -41,3 +43,13 @@ pub record IsLeastWaiting (waiting : List Waiting) (at : ℕ) : Type 0 where
 abbrev pub lesser_value : ℕ → Option ℕ → ℕ
 lesser_value n None = n
 lesser_value n (Some v) = min n v
+
+-- the earlier choice, unless the sum of a later test is less
+abbrev pub lesser_plain : Option Plain → (test sum : ℕ) → Plain
+lesser_plain None test sum = record { test = test; sum = sum }
+lesser_plain (Some c) test sum = cond (nat_le c.sum sum) c (record { test = test; sum = sum })
+
+-- the first of least sum of the splitting tests below a number, if there are any
+abbrev pub LeastBelow : Problem → List ℕ → (ℕ → ℕ) → ℕ → Option Plain → Type 0
+LeastBelow p group f k None = (t : ℕ) → t < k → splits p group t ≡ true → ⊥
+LeastBelow p group f k (Some c) = IsIn c.test (splitting p group) × (c.sum ≡ f c.test) × (c.test < k) × ((t : ℕ) → t < k → splits p group t ≡ true → (c.sum < f t) ⊎ ((c.sum ≡ f t) × (c.test ≤ t)))

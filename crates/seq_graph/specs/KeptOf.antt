@@ -1,7 +1,8 @@
 -- What is kept of a group is what working it out afresh gives. Its tests need not all be evaluated: the sum of one that waits
--- is at least the number that it waits with, and one of which the sum is above an up can't lead below it.
-use Rattle.std.specs.Prelude.{◌≡◌, ◌⊎◌, ℕ, ◌<◌, ◌≤◌, All, List, [], ◌∷◌, ◌++◌, map, Some, slice_get, swap_remove}
-use Rattle.seq_theory.specs.Problem.{Problem, IsIn, pass_part, fail_part, splitting, weight_of}
+-- is at least the number that it waits with, and one of which the sum is above an up can't lead below it. Where the lists have no
+-- room for all tests, those of which the sums are above a number may be missing.
+use Rattle.std.specs.Prelude.{◌≡◌, ◌⊎◌, ℕ, ◌<◌, ◌≤◌, min, true, All, List, [], ◌∷◌, ◌++◌, map, Some, slice_get, swap_remove}
+use Rattle.seq_theory.specs.Problem.{Problem, IsIn, splits, pass_part, fail_part, splitting, weight_of}
 use Rattle.seq_theory.specs.Bound.{bound as bound_of, step_sum}
 use Rattle.seq_theory.specs.Greedy.{greedy_cost}
 use Rattle.seq_graph.specs.declared.node.Node.{Node}
@@ -43,7 +44,7 @@ pub record IsKeptOf (p : Problem) (v : Numbered) (group : List ℕ) (k : Node) :
   pub weight : k.weight ≡ weight_of p group
   pub bound : k.bound ≡ bound_of p group
   pub greedy : k.greedy ≡ greedy_cost p group
-  pub tests : AreTestsOf p v group (step_sum p (bound_of p) group) (greedy_cost p group) k.splits.items k.waiting.items
+  pub tests : AreTestsOf p v group (step_sum p (bound_of p) group) (min (greedy_cost p group) k.most) k.splits.items k.waiting.items
 
 -- the entry at the place waits no longer, the last one of the list stands there, and its test is the last of the evaluated
 -- ones, with the numbers of its parts
@@ -60,3 +61,8 @@ pub record EvaluatesAt (p : Problem) (v : Numbered) (group : List ℕ) (at : ℕ
 abbrev pub KeepsTests : Problem → (before after : Numbered) → List ℕ → (old new : Node) → Type 0
 KeepsTests p before after group old new = (sum : ℕ → ℕ) (up : ℕ) → AreTestsOf p before group sum up old.splits.items old.waiting.items
     → AreTestsOf p after group sum up new.splits.items new.waiting.items
+
+-- each splitting test below a number waits with at most its sum, or its sum is above the up; and no other test waits
+pub record WaitingSoFar (p : Problem) (group : List ℕ) (sum : ℕ → ℕ) (up test : ℕ) (waiting : List Waiting) : Type 0 where
+  pub covers : (t : ℕ) → t < test → splits p group t ≡ true → IsBelow sum waiting t ⊎ (up < sum t)
+  pub are : All (λ w. (w.test < test) × (splits p group w.test ≡ true)) waiting

@@ -61,13 +61,13 @@ group_at rows place = (row_at rows place).group
 
 -- what is kept of a row's group. Of the tests that split it each is evaluated, or waits with a number that is at most its sum, or
 -- is left out since its sum is above the row's up: lows rise and ups fall, so such a test is never again the one of least sum,
--- and gives no lower up
+-- and gives no lower up. Or it found no room in the lists: then its sum is above the most up to which the tests are listed
 pub record IsKeptBy (p : Problem) (v : Numbered) (rows : List Row) (r : Row) (k : Node) : Type 0 where
   pub number : HasNumber v (members r.group) k.number
   pub weight : k.weight ≡ weight_of p (members r.group)
   pub bound_is : k.bound ≡ bound p (members r.group)
   pub greedy : k.greedy ≡ greedy_cost p (members r.group)
-  pub tests : AreTestsOf p v (members r.group) (step_sum p (known_low p (rows_from rows)) (members r.group)) r.up k.splits.items k.waiting.items
+  pub tests : AreTestsOf p v (members r.group) (step_sum p (known_low p (rows_from rows)) (members r.group)) (min r.up k.most) k.splits.items k.waiting.items
 
 -- the evaluated tests of the group of a place, and those that wait
 abbrev pub splits_in : Option Node → List Split
@@ -76,6 +76,14 @@ splits_in (Some k) = k.splits.items
 
 abbrev pub splits_at : List Node → ℕ → List Split
 splits_at kept place = splits_in (slice_get kept place)
+
+-- all tests of the place of which the sum is at most this are listed, but for those above the row's up
+abbrev pub most_in : Option Node → ℕ
+most_in None = 0
+most_in (Some k) = k.most
+
+abbrev pub most_at : List Node → ℕ → ℕ
+most_at kept place = most_in (slice_get kept place)
 
 abbrev pub waiting_in : Option Node → List Waiting
 waiting_in None = []

@@ -5,6 +5,7 @@ pub mod KeptOf
 pub mod Counts
 pub mod Sums
 pub mod Known
+pub mod Rooms
 pub mod Listed
 pub mod Looks
 pub mod Settling

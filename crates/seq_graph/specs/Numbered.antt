@@ -11,17 +11,24 @@ use Rattle.seq_inst.specs.declared.instance.Instance.{Instance}
 use Rattle.seq_inst.specs.Instances.{problem_of}
 
 -- what bounds are worked out by, and remembered in; the groups, as lists of classes, by number; their bounds; greedy's test and cost
--- over each, where these were worked out; and for how many more groups there is room
+-- over each, where these were worked out; for how many more groups there is room; and for how many more room is held that are
+-- entered later
 pub record Numbered : Type 0 where
   pub memo : BoundMemo
   pub groups : List (List ℕ)
   pub bounds : List ℕ
   pub greedy : List (Option Greedy)
   pub room : ℕ
+  pub held : ℕ
 
 -- how many groups can have numbers without more room
 abbrev pub capacity : Numbered → ℕ
-capacity v = length v.groups + v.room
+capacity v = length v.groups + v.room + v.held
+
+-- no room was made, and none that is held was used
+pub record KeepsNumberRoom (old new : Numbered) : Type 0 where
+  pub all : capacity new ≡ capacity old
+  pub held : new.held ≡ old.held
 
 -- the group has this number
 abbrev pub HasNumber : Numbered → List ℕ → ℕ → Type 0

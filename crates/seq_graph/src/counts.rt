@@ -1,5 +1,5 @@
 //! What groups count that were met for the first time: none of them has a row.
-ghost use Rattle.std.specs.Prelude.{◌≡◌, ◌<◌, ◌≤◌, List, ℕ, length, map, ◌++◌, drop, IfOk};
+ghost use Rattle.std.specs.Prelude.{◌≡◌, ◌<◌, ◌≤◌, List, ℕ, length, map, ◌++◌, drop, vec_capacity};
 ghost use Rattle.seq_inst.specs.Instances.{problem_of};
 ghost use Rattle.seq_graph.specs.Numbered.{HasNumber, AreNumbersFor};
 ghost use Rattle.seq_graph.specs.Counts.{new_count};
@@ -7,7 +7,6 @@ ghost use Rattle.seq_graph.specs.Counts.{new_count};
 use crate::graph::Count;
 use crate::numbers::Numbers;
 use seq_inst::{Instance, is_leaf};
-use std::alloc::AllocError;
 
 /// What the group of a number counts that has no row.
 fn count_without_row(inst: &Instance, numbers: &Numbers, number: u32) -> Count
@@ -23,19 +22,16 @@ fn count_without_row(inst: &Instance, numbers: &Numbers, number: u32) -> Count
     }
 }
 
-/// Counts for the groups that have a number, but no count yet.
-pub(crate) fn count_new(
-    inst: &Instance,
-    numbers: &Numbers,
-    counts: &mut Vec<Count>,
-) -> Result<(), AllocError>
+/// Counts for the groups that have a number, but no count yet. There is room for them.
+pub(crate) fn count_new(inst: &Instance, numbers: &Numbers, counts: &mut Vec<Count>)
     requires numbers { AreNumbersFor inst.now numbers.now }
     requires fewer { length counts.old.items ≤ length numbers.now.groups }
-    ensures { IfOk result (λ _. counts.new.items ≡ counts.old.items ++ map (new_count (problem_of inst.now)) (drop (length counts.old.items) numbers.now.groups)) }
+    requires room { length numbers.now.groups ≤ vec_capacity counts.old }
+    ensures counts { counts.new.items ≡ counts.old.items ++ map (new_count (problem_of inst.now)) (drop (length counts.old.items) numbers.now.groups) }
+    ensures capacity { vec_capacity counts.old ≤ vec_capacity counts.new }
 {
     let many = numbers.len();
     for number in counts.len() as u32..many {
-        counts.push(count_without_row(inst, numbers, number))?;
+        let _ = counts.push(count_without_row(inst, numbers, number));
     }
-    Ok(())
 }

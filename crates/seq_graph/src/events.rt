@@ -2,7 +2,7 @@
 //! raised and capped. On one thread these are what its own tests allow; a worker hears what the shared words
 //! answer in their place. The rows' bounds stay true whatever is heard, and the rows stay sound where nothing
 //! is heard but what they allow.
-ghost use Rattle.std.specs.Prelude.{◌≡◌, ◌^◌, ◌<◌, ◌≤◌, false, length, slice_set, IfOk, [], ◌∷◌, ◌++◌};
+ghost use Rattle.std.specs.Prelude.{◌≡◌, ◌^◌, ◌<◌, ◌≤◌, false, length, slice_set, vec_capacity, Some, [], ◌∷◌, ◌++◌};
 ghost use Rattle.seq_theory.specs.Graph.{is_entered, IsReal};
 ghost use Rattle.seq_theory.specs.Greedy.{greedy_cost};
 ghost use Rattle.seq_theory.specs.Rows.{groups_of, no_value};
@@ -10,23 +10,22 @@ ghost use Rattle.seq_inst.specs.Members.{members};
 ghost use Rattle.seq_inst.specs.Instances.{problem_of};
 ghost use Rattle.seq_core.specs.RowsOf.{rows_of as rows_from};
 ghost use Rattle.seq_graph.specs.Known.{AreBounds, AreSound, Allow, Narrows, row_at, group_at, IsClosedAt, heard, raised_at, capped_at, narrowed_at, IsGraphOf};
+ghost use Rattle.seq_graph.specs.Counts.{count_at};
+ghost use Rattle.seq_graph.specs.Rooms.{HasRoom, KeepsRoom, UsesRoomOfOne};
 ghost use Rattle.seq_graph.specs.Steps.{ClosesBelow};
 
 use crate::bounds::{Bounds, backed_up};
 use crate::counts::count_new;
 use crate::graph::{Count, Graph};
-use crate::node::Node;
+use crate::node::{Growth, Node};
 use crate::sums::{leave_out, leave_out_waiting};
 use seq_inst::{Group, Instance, Row};
-use std::alloc::{AllocError, Global};
-
-/// The room that is made before greedy is asked, for the groups that its tree meets.
-const ROOM_FOR_GREEDY: u32 = 4096;
 
 /// Raises a row's low, if it is less.
 fn raise(rows: &mut Vec<Row>, place: usize, to: u64)
     requires { place < length rows.old.items }
-    ensures { rows.new.items ≡ raised_at rows.old.items place to }
+    ensures rows { rows.new.items ≡ raised_at rows.old.items place to }
+    ensures capacity { vec_capacity rows.new ≡ vec_capacity rows.old }
 {
     let row = &mut rows[place];
     row.low = row.low.max(to);
@@ -35,7 +34,8 @@ fn raise(rows: &mut Vec<Row>, place: usize, to: u64)
 /// Lowers a row's up, if it is greater.
 fn cap(rows: &mut Vec<Row>, place: usize, to: u64)
     requires { place < length rows.old.items }
-    ensures { rows.new.items ≡ capped_at rows.old.items place to }
+    ensures rows { rows.new.items ≡ capped_at rows.old.items place to }
+    ensures capacity { vec_capacity rows.new ≡ vec_capacity rows.old }
 {
     let row = &mut rows[place];
     row.up = row.up.min(to);
@@ -44,11 +44,23 @@ fn cap(rows: &mut Vec<Row>, place: usize, to: u64)
 /// Raises and caps what the group of a number counts.
 fn narrow(counts: &mut Vec<Count>, number: usize, low: u64, up: u64)
     requires { number < length counts.old.items }
-    ensures { counts.new.items ≡ narrowed_at counts.old.items number low up }
+    ensures counts { counts.new.items ≡ narrowed_at counts.old.items number low up }
+    ensures capacity { vec_capacity counts.new ≡ vec_capacity counts.old }
 {
     let count = &mut counts[number];
     count.low = count.low.max(low);
     count.up = count.up.min(up);
+}
+
+/// A group that gets a row counts its up, and has its place.
+fn count_row(counts: &mut Vec<Count>, number: usize, up: u64, place: u32)
+    requires { number < length counts.old.items }
+    ensures counts { counts.new.items ≡ slice_set counts.old.items number (record (count_at counts.old.items number) { up = up; place = Some place }) }
+    ensures capacity { vec_capacity counts.new ≡ vec_capacity counts.old }
+{
+    let count = &mut counts[number];
+    count.up = up;
+    count.place = Some(place);
 }
 
 /// Raises and caps the row of a place, and what its group counts.
@@ -58,6 +70,7 @@ pub(crate) fn note(inst: &Instance, graph: &mut Graph, place: usize, bounds: Bou
     requires right { AreBounds (problem_of inst.now) (members (group_at graph.old.rows.items place)) bounds.low bounds.up }
     ensures known { IsGraphOf inst.now graph.new }
     ensures rows { graph.new.rows.items ≡ slice_set graph.old.rows.items place (heard bounds.low bounds.up (row_at graph.old.rows.items place)) }
+    ensures keeps { KeepsRoom graph.old graph.new }
     ensures narrows { Narrows graph.old.rows.items graph.new.rows.items }
     ensures closes { bounds.up ≤ bounds.low → IsClosedAt graph.new.rows.items place }
     ensures sound { Allow (problem_of inst.now) graph.old.rows.items (members (group_at graph.old.rows.items place)) bounds.low bounds.up → AreSound (problem_of inst.now) graph.old.rows.items → AreSound (problem_of inst.now) graph.new.rows.items }
@@ -74,7 +87,8 @@ fn prune(inst: &Instance, graph: &mut Graph, place: usize)
     requires known { IsGraphOf inst.now graph.old }
     requires place { place < length graph.old.rows.items }
     ensures known { IsGraphOf inst.now graph.new }
-    ensures rows { graph.new.rows.items ≡ graph.old.rows.items }
+    ensures rows { graph.new.rows ≡ graph.old.rows }
+    ensures keeps { KeepsRoom graph.old graph.new }
 {
     let up = graph.rows[place].up;
     let kept = &mut graph.nodes[place];
@@ -91,6 +105,7 @@ pub fn hear(inst: &Instance, graph: &mut Graph, place: usize, bounds: Bounds)
     requires right { AreBounds (problem_of inst.now) (members (group_at graph.old.rows.items place)) bounds.low bounds.up }
     ensures known { IsGraphOf inst.now graph.new }
     ensures rows { graph.new.rows.items ≡ slice_set graph.old.rows.items place (heard bounds.low bounds.up (row_at graph.old.rows.items place)) }
+    ensures keeps { KeepsRoom graph.old graph.new }
     ensures narrows { Narrows graph.old.rows.items graph.new.rows.items }
     ensures closes { bounds.up ≤ bounds.low → IsClosedAt graph.new.rows.items place }
 
@@ -102,88 +117,83 @@ pub fn hear(inst: &Instance, graph: &mut Graph, place: usize, bounds: Bounds)
 }
 
 /// A group hears what its own tests allow.
-pub fn back_up(inst: &Instance, graph: &mut Graph, place: usize) -> Result<(), AllocError>
+pub fn back_up(inst: &Instance, graph: &mut Graph, place: usize)
     requires known { IsGraphOf inst.now graph.old }
     requires place { place < length graph.old.rows.items }
-    ensures known { IfOk result (λ _. IsGraphOf inst.now graph.new) }
-    ensures narrows { IfOk result (λ _. Narrows graph.old.rows.items graph.new.rows.items) }
-    ensures closes { IfOk result (λ _. ClosesBelow (problem_of inst.now) graph.old.rows.items (members (group_at graph.old.rows.items place)) → IsClosedAt graph.new.rows.items place) }
-    ensures sound { IfOk result (λ _. AreSound (problem_of inst.now) graph.old.rows.items → AreSound (problem_of inst.now) graph.new.rows.items) }
+    ensures known { IsGraphOf inst.now graph.new }
+    ensures keeps { KeepsRoom graph.old graph.new }
+    ensures narrows { Narrows graph.old.rows.items graph.new.rows.items }
+    ensures closes { ClosesBelow (problem_of inst.now) graph.old.rows.items (members (group_at graph.old.rows.items place)) → IsClosedAt graph.new.rows.items place }
+    ensures sound { AreSound (problem_of inst.now) graph.old.rows.items → AreSound (problem_of inst.now) graph.new.rows.items }
 {
-    let bounds = backed_up(inst, graph, place)?;
+    let bounds = backed_up(inst, graph, place);
     hear(inst, graph, place, bounds);
-    Ok(())
 }
 
-/// Gives a group a row with what greedy costs for an up, and what is kept of it.
-pub fn add(
-    alloc: Global,
-    inst: &Instance,
-    graph: &mut Graph,
-    group: &Group,
-) -> Result<(), AllocError>
+/// Gives a group a row with what greedy costs for an up, and what is kept of it. There is room for it.
+pub fn add(inst: &Instance, graph: &mut Graph, group: &Group)
     requires known { IsGraphOf inst.now graph.old }
     requires real { IsReal (problem_of inst.now) (members group.now) }
     requires new { is_entered (groups_of (rows_from graph.old.rows.items)) (members group.now) ≡ false }
-    requires room { length graph.old.rows.items < 2 ^ 32 }
-    ensures known { IfOk result (λ _. IsGraphOf inst.now graph.new) }
-    ensures rows { IfOk result (λ _. graph.new.rows.items ≡ graph.old.rows.items ++ record { group = group.now; low = 0; up = greedy_cost (problem_of inst.now) (members group.now) } ∷ []) }
-    ensures sound { IfOk result (λ _. AreSound (problem_of inst.now) graph.old.rows.items → AreSound (problem_of inst.now) graph.new.rows.items) }
+    requires few { length graph.old.rows.items < 2 ^ 32 }
+    requires room { HasRoom 1 graph.old }
+    ensures known { IsGraphOf inst.now graph.new }
+    ensures room { UsesRoomOfOne graph.old graph.new }
+    ensures rows { graph.new.rows.items ≡ graph.old.rows.items ++ record { group = group.now; low = 0; up = greedy_cost (problem_of inst.now) (members group.now) } ∷ [] }
+    ensures sound { AreSound (problem_of inst.now) graph.old.rows.items → AreSound (problem_of inst.now) graph.new.rows.items }
 {
     let place = graph.rows.len();
-    graph.numbers.reserve(ROOM_FOR_GREEDY)?;
-    let kept = Node::of(
-        &mut graph.numbers,
-        inst,
-        group,
-        Vec::new(alloc),
-        Vec::new(alloc),
-    )?;
-    count_new(inst, &graph.numbers, &mut graph.counts)?;
-    let count = &mut graph.counts[kept.number as usize];
-    count.up = kept.greedy;
-    count.place = Some(place as u32);
-    graph.rows.push(Row {
+    let Some(lists) = graph.lists.pop() else {
+        unreachable!()
+    };
+    let kept = Node::of(&mut graph.numbers, inst, group, lists, graph.growth);
+    count_new(inst, &graph.numbers, &mut graph.counts);
+    count_row(
+        &mut graph.counts,
+        kept.number as usize,
+        kept.greedy,
+        place as u32,
+    );
+    let _ = graph.rows.push(Row {
         group: *group,
         low: 0,
         up: kept.greedy,
-    })?;
-    graph.nodes.push(kept)?;
-    Ok(())
+    });
+    let _ = graph.nodes.push(kept);
 }
 
-/// Gives back the room of the tests that were left out. Most go at the first revision, so that this pays
+/// Gives back the room of the tests that were left out, where lists may grow again. Most go at the first revision, so that this pays
 /// when a group is entered, and not later.
 fn give_back(inst: &Instance, graph: &mut Graph, place: usize)
     requires known { IsGraphOf inst.now graph.old }
     requires place { place < length graph.old.rows.items }
     ensures known { IsGraphOf inst.now graph.new }
-    ensures rows { graph.new.rows.items ≡ graph.old.rows.items }
+    ensures rows { graph.new.rows ≡ graph.old.rows }
+    ensures keeps { KeepsRoom graph.old graph.new }
 {
     let _ = inst;
+    if graph.growth == Growth::Fixed {
+        return;
+    }
     let kept = &mut graph.nodes[place];
     kept.splits.shrink_to_fit();
     kept.waiting.shrink_to_fit();
 }
 
-/// Enters a group, and raises and caps it.
-pub fn enter(
-    alloc: Global,
-    inst: &Instance,
-    graph: &mut Graph,
-    group: &Group,
-) -> Result<(), AllocError>
+/// Enters a group, and raises and caps it. There is room for it.
+pub fn enter(inst: &Instance, graph: &mut Graph, group: &Group)
     requires known { IsGraphOf inst.now graph.old }
     requires real { IsReal (problem_of inst.now) (members group.now) }
     requires new { is_entered (groups_of (rows_from graph.old.rows.items)) (members group.now) ≡ false }
-    requires room { length graph.old.rows.items < 32768 }
-    ensures known { IfOk result (λ _. IsGraphOf inst.now graph.new) }
-    ensures narrows { IfOk result (λ _. Narrows (graph.old.rows.items ++ record { group = group.now; low = 0; up = no_value } ∷ []) graph.new.rows.items) }
-    ensures sound { IfOk result (λ _. AreSound (problem_of inst.now) graph.old.rows.items → AreSound (problem_of inst.now) graph.new.rows.items) }
+    requires few { length graph.old.rows.items < 32768 }
+    requires room { HasRoom 1 graph.old }
+    ensures known { IsGraphOf inst.now graph.new }
+    ensures room { UsesRoomOfOne graph.old graph.new }
+    ensures narrows { Narrows (graph.old.rows.items ++ record { group = group.now; low = 0; up = no_value } ∷ []) graph.new.rows.items }
+    ensures sound { AreSound (problem_of inst.now) graph.old.rows.items → AreSound (problem_of inst.now) graph.new.rows.items }
 {
     let place = graph.rows.len();
-    add(alloc, inst, graph, group)?;
-    back_up(inst, graph, place)?;
+    add(inst, graph, group);
+    back_up(inst, graph, place);
     give_back(inst, graph, place);
-    Ok(())
 }

@@ -5,7 +5,7 @@ ghost use Rattle.std.specs.Prelude.{◌≡◌, [], IfOk};
 ghost use Rattle.seq_inst.specs.Instances.{problem_of};
 ghost use Rattle.seq_graph.specs.Known.{AreSound, IsGraphOf};
 
-use crate::node::Node;
+use crate::node::{Growth, Lists, Node};
 use crate::numbers::Numbers;
 use seq_inst::{Instance, Row};
 use std::alloc::{AllocError, Global};
@@ -29,10 +29,14 @@ pub struct Graph {
     pub nodes: Vec<Node>,
     /// By number.
     pub counts: Vec<Count>,
+    /// For the groups that are entered next, the last ones first.
+    pub lists: Vec<Lists>,
+    /// Whether the nodes' lists and the numbers take more memory while groups are looked at.
+    pub growth: Growth,
 }
 
 impl Graph {
-    /// Nothing is known yet.
+    /// Nothing is known yet. `grow` makes room for the groups that are entered.
     pub fn new(alloc: Global, inst: &Instance) -> Result<Graph, AllocError>
         ensures rows { IfOk result (λ s. s.rows.items ≡ []) }
         ensures known { IfOk result (IsGraphOf inst.now) }
@@ -44,6 +48,8 @@ impl Graph {
             rows: Vec::new(alloc),
             nodes: Vec::new(alloc),
             counts: Vec::new(alloc),
+            lists: Vec::new(alloc),
+            growth: Growth::Free,
         })
     }
 }

@@ -18,7 +18,7 @@ ghost use Rattle.seq_inst.specs.Instances.{problem_of, IsGroupOf};
 ghost use Rattle.seq_inst.specs.Members.{members};
 ghost use Rattle.seq_inst.specs.Trees.{tree_of};
 ghost use Rattle.seq_graph.specs.GreedyChoice.{IsNoLater, IsTestWithSum, evaluated, AreEstimatesFor};
-ghost use Rattle.seq_graph.specs.Numbered.{capacity, KeepsNumbers, AreNumbersFor};
+ghost use Rattle.seq_graph.specs.Numbered.{KeepsNumberRoom, KeepsNumbers, AreNumbersFor};
 
 use crate::numbers::Numbers;
 use seq_huff::{Estimate, Order};
@@ -109,7 +109,7 @@ impl Numbers {
         requires weight { weight ≡ weight_sum (problem_of inst.now) (members group.now) }
         ensures numbers { AreNumbersFor inst.now self.new }
         ensures keeps { KeepsNumbers self.old self.new }
-        ensures capacity { capacity self.new ≡ capacity self.old }
+        ensures room { KeepsNumberRoom self.old self.new }
         ensures value { result ≡ step_sum (problem_of inst.now) (bound_by (problem_of inst.now)) (members group.now) test }
     {
         let parts = parts_of(inst, group, test);
@@ -137,7 +137,7 @@ impl Numbers {
         requires estimate { is_split (problem_of inst.now) (members group.now) test ≡ true → estimate ≤ step_sum (problem_of inst.now) (bound_by (problem_of inst.now)) (members group.now) test }
         ensures numbers { AreNumbersFor inst.now self.new }
         ensures keeps { KeepsNumbers self.old self.new }
-        ensures capacity { capacity self.new ≡ capacity self.old }
+        ensures room { KeepsNumberRoom self.old self.new }
         ensures evaluated { IsTestWithSum (problem_of inst.now) (members group.now) result }
         ensures earlier { IsNoLater result earlier }
         ensures test { is_split (problem_of inst.now) (members group.now) test ≡ true → IsNoLater result (evaluated (problem_of inst.now) (members group.now) test) }
@@ -164,7 +164,7 @@ impl Numbers {
         requires estimates { AreEstimatesFor inst.now group.now estimates.now }
         ensures numbers { AreNumbersFor inst.now self.new }
         ensures keeps { KeepsNumbers self.old self.new }
-        ensures capacity { capacity self.new ≡ capacity self.old }
+        ensures room { KeepsNumberRoom self.old self.new }
         ensures test { result ≡ test_of_greedy (problem_of inst.now) (members group.now) }
     {
         let sum = self.bound_sum(inst, group, estimates.first, weight);
@@ -195,7 +195,7 @@ impl Numbers {
         requires estimates { IfSome estimates (λ e. AreEstimatesFor inst.now group.now e.now) }
         ensures numbers { AreNumbersFor inst.now self.new }
         ensures keeps { KeepsNumbers self.old self.new }
-        ensures capacity { capacity self.new ≡ capacity self.old }
+        ensures room { KeepsNumberRoom self.old self.new }
         ensures test { result ≡ test_of_greedy (problem_of inst.now) (members group.now) }
     {
         match estimates {
@@ -214,7 +214,7 @@ impl Numbers {
         requires within { IsGroupOf inst.now group.now }
         ensures numbers { AreNumbersFor inst.now self.new }
         ensures keeps { KeepsNumbers self.old self.new }
-        ensures capacity { capacity self.new ≡ capacity self.old }
+        ensures room { KeepsNumberRoom self.old self.new }
         ensures value { result ≡ cost_of_greedy (problem_of inst.now) (members group.now) }
         ensures fits { result ≤ greatest_cost }
     {
@@ -233,7 +233,7 @@ impl Numbers {
         requires estimates { IfSome estimates (λ e. AreEstimatesFor inst.now group.now e.now) }
         ensures numbers { AreNumbersFor inst.now self.new }
         ensures keeps { KeepsNumbers self.old self.new }
-        ensures capacity { capacity self.new ≡ capacity self.old }
+        ensures room { KeepsNumberRoom self.old self.new }
         ensures value { result ≡ cost_of_greedy (problem_of inst.now) (members group.now) }
         ensures fits { result ≤ greatest_cost }
     {
@@ -260,7 +260,7 @@ impl Numbers {
         requires more { is_end (problem_of inst.now) (members group.now) ≡ false }
         ensures numbers { AreNumbersFor inst.now self.new }
         ensures keeps { KeepsNumbers self.old self.new }
-        ensures capacity { capacity self.new ≡ capacity self.old }
+        ensures room { KeepsNumberRoom self.old self.new }
         ensures test { result ≡ test_of_greedy (problem_of inst.now) (members group.now) }
     {
         if let Some(known) = self.kept_greedy(group) {
@@ -282,7 +282,7 @@ impl Numbers {
         requires within { IsGroupOf inst.now group.now }
         ensures numbers { AreNumbersFor inst.now self.new }
         ensures keeps { KeepsNumbers self.old self.new }
-        ensures capacity { capacity self.new ≡ capacity self.old }
+        ensures room { KeepsNumberRoom self.old self.new }
         ensures value { IfOk result (λ s. tree_of s ≡ tree_of_greedy (problem_of inst.now) (members group.now)) }
     {
         if is_leaf(inst, group) {

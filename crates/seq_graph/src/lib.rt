@@ -9,7 +9,8 @@
 //!
 //! An engine enters groups (`enter`), goes down by tests of least sum (`next_step`), and raises and caps the
 //! groups that it came through from what is known of their parts (`back_up`: AO*'s revision from below
-//! upwards). Rows that were found elsewhere make a graph too (`Graph::of_rows`). At the end `settle` gives
+//! upwards). Before a group is entered there is room for it: made for one more (`grow`), or for all at once
+//! (`Graph::with_room`), and then nothing takes memory. Rows that were found elsewhere make a graph too (`Graph::of_rows`). At the end `settle` gives
 //! each row the low and the value that the entered groups give it together. Whatever is kept saves work, and
 //! changes no result. Here too stands the measure by which a walk ends.
 #![tactic(auto)]
@@ -26,6 +27,8 @@ mod look;
 mod memo;
 mod node;
 mod numbers;
+mod plain;
+mod rooms;
 mod settling;
 mod steps;
 mod sums;
@@ -37,7 +40,8 @@ pub use bounds::{Bounds, backed_up};
 pub use events::{add, back_up, enter, hear};
 pub use graph::{Count, Graph};
 pub use laws::turns_move;
-pub use node::{Node, Split, Waiting};
+pub use node::{Growth, Lists, Node, Split, Waiting};
 pub use numbers::Numbers;
+pub use rooms::grow;
 pub use settling::settle;
 pub use steps::{Step, next_step};

@@ -11,6 +11,7 @@ ghost use Rattle.seq_graph.specs.Listed.{listed};
 
 use crate::events::add;
 use crate::graph::Graph;
+use crate::rooms::grow;
 use seq_inst::{Instance, Row};
 use std::alloc::{AllocError, Global};
 
@@ -28,7 +29,8 @@ impl Graph {
         };
         let mut graph = Graph::new(alloc, inst)?;
         for row in rows {
-            add(alloc, inst, &mut graph, &row.group)?;
+            grow(alloc, inst, &mut graph)?;
+            add(inst, &mut graph, &row.group);
         }
         Ok(graph)
     }

@@ -2,20 +2,18 @@
 //! other tests. Such a test counts for the group's value, so it is evaluated when the group's row is
 //! settled. A walk needs no look: a test that waits has a sum above the least, so it is not asked, and what
 //! its parts cost can't close the group.
-ghost use Rattle.std.specs.Prelude.{◌≡◌, ◌<◌, length, is_some, vec_len, Contains, IfOk};
+ghost use Rattle.std.specs.Prelude.{◌≡◌, ◌<◌, length, is_some, vec_len, true};
 ghost use Rattle.seq_theory.specs.Graph.{step_value};
 ghost use Rattle.seq_theory.specs.Rows.{known_up};
 ghost use Rattle.seq_inst.specs.Members.{members};
 ghost use Rattle.seq_inst.specs.Instances.{problem_of};
-ghost use Rattle.seq_graph.specs.declared.node.Split.{Split};
 ghost use Rattle.seq_core.specs.RowsOf.{rows_of as rows_from};
-ghost use Rattle.seq_graph.specs.Known.{splits_at, waiting_at, IsGraphOf};
+ghost use Rattle.seq_graph.specs.Known.{IsGraphOf};
 ghost use Rattle.seq_graph.specs.Looks.{NoneIsValued};
 
 use crate::graph::Graph;
 use crate::waiting::evaluate;
 use seq_inst::{Group, Instance, is_leaf, parts_of};
-use std::alloc::AllocError;
 
 /// Whether the group has one goal, or a number beside which an up stands.
 fn has_up(inst: &Instance, graph: &Graph, group: &Group) -> bool
@@ -38,28 +36,26 @@ fn have_ups(inst: &Instance, graph: &Graph, group: &Group, test: u32) -> bool
     has_up(inst, graph, &parts.pass) && has_up(inst, graph, &parts.fail)
 }
 
-/// Evaluates the tests that wait though both of their parts have an up.
-pub(crate) fn look_at_all(
-    inst: &Instance,
-    graph: &mut Graph,
-    place: usize,
-) -> Result<(), AllocError>
+/// Evaluates the tests that wait though both of their parts have an up. The answer is whether there was room
+/// for all of them.
+pub(crate) fn look_at_all(inst: &Instance, graph: &mut Graph, place: usize) -> bool
     requires known { IsGraphOf inst.now graph.old }
     requires place { place < length graph.old.rows.items }
-    ensures known { IfOk result (λ _. IsGraphOf inst.now graph.new) }
-    ensures rows { IfOk result (λ _. graph.new.rows.items ≡ graph.old.rows.items) }
-    ensures valued { IfOk result (λ _. NoneIsValued (problem_of inst.now) graph.new.rows.items graph.new.nodes.items place) }
-    ensures listed { IfOk result (λ _. (s : Split) → Contains (splits_at graph.old.nodes.items place) s → Contains (splits_at graph.new.nodes.items place) s) }
+    ensures known { IsGraphOf inst.now graph.new }
+    ensures rows { graph.new.rows ≡ graph.old.rows }
+    ensures valued { result ≡ true → NoneIsValued (problem_of inst.now) graph.new.rows.items graph.new.nodes.items place }
 {
     let group = graph.rows[place].group;
     let mut at = 0;
     while at < graph.nodes[place].waiting.len() {
         let test = graph.nodes[place].waiting[at].test;
         if have_ups(inst, graph, &group, test) {
-            evaluate(inst, graph, place, at)?;
+            if evaluate(inst, graph, place, at).is_none() {
+                return false;
+            }
         } else {
             at += 1;
         }
     }
-    Ok(())
+    true
 }

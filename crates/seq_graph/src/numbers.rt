@@ -6,7 +6,8 @@
 //!
 //! `reserve` takes the memory for so many more groups. `number_within` takes none: it gives numbers while
 //! that room lasts. A group that is met later has none, and what is asked of it is worked out afresh, each
-//! time; so a lack of room costs time and changes no answer.
+//! time; so a lack of room costs time and changes no answer. For groups that will be entered room is held,
+//! which none but these use.
 ghost use Rattle.std.specs.Prelude.{◌≡◌, ◌+◌, ◌-◌, ◌++◌, ◌∷◌, [], ◌<◌, ◌≤◌, false, true, max, length, slice_get, slice_set, IsOk, IfOk, OnOk, OnErr, IfSome, IfNone, Some, None};
 ghost use Rattle.seq_theory.specs.Problem.{Problem, is_end};
 ghost use Rattle.seq_theory.specs.Bound.{bound as bound_by};
@@ -15,7 +16,7 @@ ghost use Rattle.seq_huff.specs.Bounds.{greatest_cost};
 ghost use Rattle.seq_inst.specs.Instances.{problem_of, IsGroupOf};
 ghost use Rattle.seq_inst.specs.Members.{members};
 ghost use Rattle.seq_graph.specs.GreedyChoice.{AreEstimatesFor};
-ghost use Rattle.seq_graph.specs.Numbered.{capacity, HasNumber, HasGreedy, IsGreedyOf, AreNumbers, KeepsNumbers, AreNumbersFor};
+ghost use Rattle.seq_graph.specs.Numbered.{capacity, KeepsNumberRoom, HasNumber, HasGreedy, IsGreedyOf, AreNumbers, KeepsNumbers, AreNumbersFor};
 
 use crate::greedy::{Estimates, Greedy, estimates_of};
 use crate::memo::BoundMemo;
@@ -33,8 +34,10 @@ pub struct Numbers {
     bounds: IndexMap<[u64; 8], u64>,
     /// Greedy's test and cost over each group, by number.
     greedy: Vec<Option<Greedy>>,
-    /// How many more groups both lists have room for.
+    /// How many more groups both lists have room for, beside those for which room is held.
     room: u32,
+    /// For how many groups room is held that are entered later.
+    held: u32,
 }
 
 impl Model for Numbers {
@@ -45,14 +48,14 @@ impl Model for Numbers {
 
     ghost Value = { Numbered };
 
-    ghost view = { λ m. record { memo = m.memo; groups = map classes_of (keys m.bounds); bounds = values m.bounds; greedy = m.greedy.items; room = m.room } };
+    ghost view = { λ m. record { memo = m.memo; groups = map classes_of (keys m.bounds); bounds = values m.bounds; greedy = m.greedy.items; room = m.room; held = m.held } };
 
     ghost invariant = { λ m. record {
       words : AreWords (keys m.bounds);
       as_many : length m.greedy.items ≡ length (keys m.bounds);
-      few : length m.greedy.items + m.room < 2 ^ 32;
-      room_for_bounds : m.room ≤ spare m.bounds;
-      room_for_greedy : length m.greedy.items + m.room ≤ vec_capacity m.greedy;
+      few : length m.greedy.items + m.room + m.held < 2 ^ 32;
+      room_for_bounds : m.room + m.held ≤ spare m.bounds;
+      room_for_greedy : length m.greedy.items + m.room + m.held ≤ vec_capacity m.greedy;
     } };
 }
 
@@ -61,6 +64,7 @@ impl Numbers {
     pub fn new(alloc: Global, inst: &Instance) -> Result<Numbers, AllocError>
         ensures numbers { IfOk result (AreNumbersFor inst.now) }
         ensures none { IfOk result (λ v. v.groups ≡ []) }
+        ensures room { IfOk result (λ v. capacity v ≡ 0) }
     {
         let memo = BoundMemo::new(alloc, inst)?;
         Ok(Numbers {
@@ -68,6 +72,7 @@ impl Numbers {
             bounds: IndexMap::new(alloc),
             greedy: Vec::new(alloc),
             room: 0,
+            held: 0,
         })
     }
 
@@ -76,6 +81,27 @@ impl Numbers {
         ensures { result ≡ length self.now.groups }
     {
         self.greedy.len() as u32
+    }
+
+    /// How many groups can have numbers without more room.
+    pub(crate) fn capacity(&self) -> u32
+        ensures { result ≡ capacity self.now }
+    {
+        self.greedy.len() as u32 + self.room + self.held
+    }
+
+    /// For how many more groups there is room that isn't held.
+    pub(crate) fn room(&self) -> u32
+        ensures { result ≡ self.now.room }
+    {
+        self.room
+    }
+
+    /// For how many groups room is held.
+    pub(crate) fn held(&self) -> u32
+        ensures { result ≡ self.now.held }
+    {
+        self.held
     }
 
     /// The group of the number.
@@ -130,7 +156,7 @@ impl Numbers {
         requires greedy { IsGreedyOf (problem_of inst.now) (members group.now) greedy }
         ensures numbers { AreNumbersFor inst.now self.new }
         ensures keeps { KeepsNumbers self.old self.new }
-        ensures capacity { capacity self.new ≡ capacity self.old }
+        ensures room { KeepsNumberRoom self.old self.new }
     {
         if let Some(number) = self.number_within(inst, group) {
             self.write_greedy(number, greedy);
@@ -150,24 +176,26 @@ impl Numbers {
         }
     }
 
-    /// Makes room for so many more groups. It takes no memory where there is as much room. Where the
-    /// memory is short, nothing has changed.
-    pub fn reserve(&mut self, more: u32) -> Result<(), AllocError>
-        ensures ok { OnOk result (self.new ≡ record self.old { room = max self.old.room more }) }
+    /// Makes room for so many more groups, and holds room for so many that are entered later. It takes no
+    /// memory where there is as much room. Where the memory is short, nothing has changed.
+    pub fn reserve(&mut self, more: u32, held: u32) -> Result<(), AllocError>
+        ensures ok { OnOk result (self.new ≡ record self.old { room = max self.old.room more; held = max self.old.held held }) }
         ensures err { OnErr result (self.new ≡ self.old) }
-        ensures succeeds { more ≤ self.old.room → IsOk result }
         ensures numbers { (p : Problem) → AreNumbers p self.old → AreNumbers p self.new }
-        ensures keeps { KeepsNumbers self.old self.new }
+        ensures groups { self.new.groups ≡ self.old.groups }
+        ensures more { self.old.held ≤ self.new.held }
+        ensures capacity { capacity self.new ≤ length self.old.groups + (max self.old.room more + max self.old.held held) }
     {
-        if more <= self.room {
-            return Ok(());
-        }
-        if more > u32::MAX - self.len() {
+        let room = self.room.max(more);
+        let held = self.held.max(held);
+        let left = u32::MAX - self.len();
+        if room > left || held > left - room {
             return Err(AllocError);
         }
-        self.bounds.reserve(more as usize)?;
-        self.greedy.reserve(more as usize)?;
-        self.room = more;
+        self.bounds.reserve((room + held) as usize)?;
+        self.greedy.reserve((room + held) as usize)?;
+        self.room = room;
+        self.held = held;
         Ok(())
     }
 
@@ -195,34 +223,40 @@ impl Numbers {
         ensures numbers { AreNumbersFor inst.now self.new }
         ensures keeps { KeepsNumbers self.old self.new }
         ensures number { HasNumber self.new (members group.now) result }
-        ensures capacity { capacity self.new ≡ capacity self.old }
+        ensures room { KeepsNumberRoom self.old self.new }
         ensures one { self.old.room ≤ self.new.room + 1 }
     {
         let bound = self.memo_bound(inst, group);
         self.add(group, bound)
     }
 
-    /// The number of the group. One that has none gets the next one, with its bound. It takes memory only
-    /// where the group has no number and no room is left.
-    pub fn number_of(&mut self, inst: &Instance, group: &Group) -> Result<u32, AllocError>
+    /// Room is no longer held for one of the groups that are entered later.
+    fn release(&mut self)
+        requires held { 0 < self.old.held }
+        ensures released { self.new ≡ record self.old { room = self.old.room + 1; held = self.old.held - 1 } }
+        ensures numbers { (p : Problem) → AreNumbers p self.old → AreNumbers p self.new }
+    {
+        self.room += 1;
+        self.held -= 1;
+    }
+
+    /// The number of a group that is entered. One that has none gets the next one, with its bound. It uses
+    /// room that is held, and takes no memory.
+    pub fn number_of(&mut self, inst: &Instance, group: &Group) -> u32
         requires numbers { AreNumbersFor inst.now self.old }
         requires within { IsGroupOf inst.now group.now }
+        requires held { 0 < self.old.held }
         ensures numbers { AreNumbersFor inst.now self.new }
         ensures keeps { KeepsNumbers self.old self.new }
-        ensures number { IfOk result (HasNumber self.new (members group.now)) }
-
-        // It fails only where the group has no number and no room is left.
-        ensures known { is_entered self.old.groups (members group.now) ≡ true → IsOk result }
-        ensures succeeds { 0 < self.old.room → IsOk result }
-
-        // A new number takes up the room of one.
-        ensures one { self.old.room ≤ self.new.room + 1 }
+        ensures number { HasNumber self.new (members group.now) result }
+        ensures capacity { capacity self.new ≡ capacity self.old }
+        ensures one { self.new.held + 1 ≡ self.old.held }
     {
-        if let Some(number) = self.find(group) {
-            return Ok(number);
+        self.release();
+        match self.number_within(inst, group) {
+            Some(number) => number,
+            None => unreachable!(),
         }
-        self.reserve(1)?;
-        Ok(self.next_number(inst, group))
     }
 
     /// The number of the group. One that has none gets the next one, with its bound, while there is room.
@@ -239,7 +273,7 @@ impl Numbers {
         ensures full { IfNone result (self.old.room ≡ 0) }
 
         // A new number takes up the room of one.
-        ensures capacity { capacity self.new ≡ capacity self.old }
+        ensures room { KeepsNumberRoom self.old self.new }
         ensures one { self.old.room ≤ self.new.room + 1 }
     {
         if let Some(number) = self.find(group) {
@@ -279,7 +313,8 @@ impl Numbers {
         requires within { IsGroupOf inst.now group.now }
         ensures numbers { AreNumbersFor inst.now self.new }
         ensures keeps { KeepsNumbers self.old self.new }
-        ensures capacity { capacity self.new ≡ capacity self.old }
+        ensures room { KeepsNumberRoom self.old self.new }
+        ensures same { self.new ≡ record self.old { memo = self.new.memo } }
         ensures value { result ≡ bound_by (problem_of inst.now) (members group.now) }
         ensures fits { result ≤ greatest_cost }
     {

@@ -9,36 +9,54 @@ ghost use Rattle.std.specs.Prelude.{◌≡◌, ◌<◌, length, slice_set, IfOk}
 ghost use Rattle.seq_inst.specs.Instances.{problem_of};
 ghost use Rattle.seq_core.specs.Settled.{groups_in, size_at, settled_row, settled_rows, AreSettledBelow};
 ghost use Rattle.seq_graph.specs.Known.{AreSound, row_at, IsGraphOf};
+ghost use Rattle.seq_graph.specs.Settling.{IsSettledUp};
 
-use crate::bounds::bounds_by;
+use crate::bounds::{Bounds, bounds_by};
 use crate::choice::least_test;
 use crate::events::note;
 use crate::graph::Graph;
 use crate::look::look_at_all;
+use crate::plain::plain_least_up;
 use seq_core::{smallest_first, turns_settle};
 use seq_inst::Instance;
 use std::alloc::{AllocError, Global};
 
+/// The least of what the tests of a group give for an up: by the evaluated ones, where the others give no less.
+fn settled_up(inst: &Instance, graph: &Graph, place: usize, up: u64, looked: bool) -> u64
+    requires known { IsGraphOf inst.now graph.now }
+    requires place { place < length graph.now.rows.items }
+    ensures { IsSettledUp (problem_of inst.now) graph.now.rows.items graph.now.nodes.items place looked up result }
+{
+    if looked && graph.rows[place].up <= graph.nodes[place].most {
+        return up;
+    }
+    plain_least_up(inst, graph, place)
+}
+
 /// Gives the row at a place its low and its value, where those of all smaller groups are settled.
-fn settle_row(inst: &Instance, graph: &mut Graph, place: usize) -> Result<(), AllocError>
+fn settle_row(inst: &Instance, graph: &mut Graph, place: usize)
     requires known { IsGraphOf inst.now graph.old }
     requires place { place < length graph.old.rows.items }
     requires sound { AreSound (problem_of inst.now) graph.old.rows.items }
     requires below { AreSettledBelow (problem_of inst.now) graph.old.rows.items (size_at graph.old.rows.items place) }
-    ensures known { IfOk result (λ _. IsGraphOf inst.now graph.new) }
-    ensures rows { IfOk result (λ _. graph.new.rows.items ≡ slice_set graph.old.rows.items place (settled_row (problem_of inst.now) (groups_in graph.old.rows.items) (row_at graph.old.rows.items place))) }
-    ensures sound { IfOk result (λ _. AreSound (problem_of inst.now) graph.new.rows.items) }
+    ensures known { IsGraphOf inst.now graph.new }
+    ensures rows { graph.new.rows.items ≡ slice_set graph.old.rows.items place (settled_row (problem_of inst.now) (groups_in graph.old.rows.items) (row_at graph.old.rows.items place)) }
+    ensures sound { AreSound (problem_of inst.now) graph.new.rows.items }
 {
     turns_settle();
     let row = graph.rows[place];
     if row.low == row.up {
-        return Ok(());
+        return;
     }
-    let chosen = least_test(inst, graph, place)?;
-    look_at_all(inst, graph, place)?;
-    let bounds = bounds_by(inst, graph, place, chosen);
-    note(inst, graph, place, bounds);
-    Ok(())
+    let least = least_test(inst, graph, place);
+    let looked = look_at_all(inst, graph, place);
+    let bounds = bounds_by(inst, graph, place, least);
+    let up = settled_up(inst, graph, place, bounds.up, looked);
+    let settled = Bounds {
+        low: bounds.low,
+        up,
+    };
+    note(inst, graph, place, settled);
 }
 
 /// Gives each row the low and the value that the rows' groups give it together.
@@ -51,7 +69,7 @@ pub fn settle(alloc: Global, inst: &Instance, graph: &mut Graph) -> Result<(), A
     turns_settle();
     let order = smallest_first(alloc, graph.rows.as_slice())?;
     for turn in 0..order.len() {
-        settle_row(inst, graph, order[turn] as usize)?;
+        settle_row(inst, graph, order[turn] as usize);
     }
     Ok(())
 }

@@ -2,19 +2,19 @@
 //! is entered; else the walk goes on in a part that is open; else both parts are closed, and so the group
 //! itself closes. Which of the two parts is looked at first is the caller's choice: one thread takes the
 //! passing one, and of several workers some take the failing one, so that they part ways.
-ghost use Rattle.std.specs.Prelude.{◌≡◌, ◌<◌, List, ℕ, length, IfOk};
+ghost use Rattle.std.specs.Prelude.{◌≡◌, ◌<◌, List, ℕ, length};
 ghost use Rattle.seq_inst.specs.Members.{members};
 ghost use Rattle.seq_inst.specs.Instances.{problem_of};
 ghost use Rattle.seq_graph.specs.Numbered.{HasNumber};
 ghost use Rattle.seq_graph.specs.Known.{group_at, IsGraphOf};
+ghost use Rattle.seq_graph.specs.Rooms.{KeepsRoom};
 ghost use Rattle.seq_graph.specs.Steps.{IsStep, EntersFirst, step_by};
 ghost use Rattle.seq_graph.specs.Parts.{IsKnowledge};
 
 use crate::choice::least_test;
 use crate::graph::Graph;
-use seq_inst::{Answer, Group, Instance};
+use seq_inst::{Answer, Group, Instance, is_leaf, parts_of};
 use seq_theory::walks_hold;
-use std::alloc::AllocError;
 
 /// What a walk does at a group.
 #[derive(Clone, Copy)]
@@ -66,6 +66,23 @@ fn knowledge_of(inst: &Instance, graph: &Graph, number: u32) -> Knowledge
     }
 }
 
+/// What is known of a part. One that was not met before has no row.
+fn knowledge_of_part(inst: &Instance, graph: &Graph, part: &Group) -> Knowledge
+    requires known { IsGraphOf inst.now graph.now }
+    ensures { IsKnowledge (problem_of inst.now) graph.now.rows.items (members part.now) result }
+{
+    match graph.numbers.find(part) {
+        Some(number) => knowledge_of(inst, graph, number),
+        None => {
+            if is_leaf(inst, part) {
+                Knowledge::Closed
+            } else {
+                Knowledge::Unknown
+            }
+        }
+    }
+}
+
 /// What the walk does at a group, by what is known of both parts. The one comes first.
 fn step_of(one: Group, one_known: Knowledge, other: Group, other_known: Knowledge) -> Step
     ensures { result ≡ step_by one one_known other other_known }
@@ -86,27 +103,22 @@ fn step_of(one: Group, one_known: Knowledge, other: Group, other_known: Knowledg
 
 /// What the walk does at a group, by its test of least sum. Of its two parts that of the first answer comes
 /// first.
-pub fn next_step(
-    inst: &Instance,
-    graph: &mut Graph,
-    place: usize,
-    first: Answer,
-) -> Result<Step, AllocError>
+pub fn next_step(inst: &Instance, graph: &mut Graph, place: usize, first: Answer) -> Step
     requires known { IsGraphOf inst.now graph.old }
     requires place { place < length graph.old.rows.items }
-    ensures known { IfOk result (λ _. IsGraphOf inst.now graph.new) }
-    ensures rows { IfOk result (λ _. graph.new.rows.items ≡ graph.old.rows.items) }
-    ensures step { IfOk result (IsStep (problem_of inst.now) graph.old.rows.items (members (group_at graph.old.rows.items place))) }
-    ensures first { IfOk result (EntersFirst (problem_of inst.now) graph.old.rows.items (members (group_at graph.old.rows.items place)) first) }
+    ensures known { IsGraphOf inst.now graph.new }
+    ensures rows { graph.new.rows ≡ graph.old.rows }
+    ensures keeps { KeepsRoom graph.old graph.new }
+    ensures step { IsStep (problem_of inst.now) graph.old.rows.items (members (group_at graph.old.rows.items place)) result }
+    ensures first { EntersFirst (problem_of inst.now) graph.old.rows.items (members (group_at graph.old.rows.items place)) first result }
 {
     walks_hold();
-    let split = least_test(inst, graph, place)?.split;
-    let pass_part = graph.numbers.group_at(split.pass);
-    let fail_part = graph.numbers.group_at(split.fail);
-    let pass_known = knowledge_of(inst, graph, split.pass);
-    let fail_known = knowledge_of(inst, graph, split.fail);
+    let test = least_test(inst, graph, place).test;
+    let parts = parts_of(inst, &graph.rows[place].group, test);
+    let pass_known = knowledge_of_part(inst, graph, &parts.pass);
+    let fail_known = knowledge_of_part(inst, graph, &parts.fail);
     match first {
-        Answer::Pass => Ok(step_of(pass_part, pass_known, fail_part, fail_known)),
-        Answer::Fail => Ok(step_of(fail_part, fail_known, pass_part, pass_known)),
+        Answer::Pass => step_of(parts.pass, pass_known, parts.fail, fail_known),
+        Answer::Fail => step_of(parts.fail, fail_known, parts.pass, pass_known),
     }
 }

@@ -1,8 +1,8 @@
 //! What is kept of a group, and numbers while there is room for them, on a worked instance.
-ghost use Rattle.std.specs.Prelude.{◌≡◌, [], ◌∷◌, IfOk};
+ghost use Rattle.std.specs.Prelude.{◌≡◌, ◌≤◌, [], ◌∷◌, IfOk};
 ghost use Rattle.seq_graph.specs.Numbered.{AreNumbersFor};
 
-use crate::{Node, Numbers, Split};
+use crate::{Graph, Growth, Lists, Node, Numbers, Split};
 use seq_inst::{Answer, Group, Instance, Strategy, checked_holds, part, root};
 use std::alloc::{AllocError, Global};
 use std::test::Fail;
@@ -32,10 +32,12 @@ fn no_numbers(alloc: Global, inst: &Instance) -> Result<Numbers, AllocError>
 /// Room for one more group. That the numbers stay the instance's is one clause here.
 fn more_room(inst: &Instance, numbers: &mut Numbers) -> Result<(), AllocError>
     requires { AreNumbersFor inst.now numbers.old }
-    ensures { AreNumbersFor inst.now numbers.new }
+    ensures numbers { AreNumbersFor inst.now numbers.new }
+    ensures held { IfOk result (λ _. 1 ≤ numbers.new.held) }
 {
     let _ = inst;
-    numbers.reserve(1)
+    numbers.reserve(4, 1)?;
+    Ok(())
 }
 
 #[test]
@@ -45,13 +47,19 @@ fn what_is_kept_of_two_faults(rt: HostRuntime) -> Result<(), Fail> {
     let all = root(&inst);
     let passing = part(&inst, &all, 0, Answer::Pass);
     let mut numbers = no_numbers(alloc, &inst)?;
-    let mut kept = Node::of(&mut numbers, &inst, &all, Vec::new(alloc), Vec::new(alloc))?;
+    more_room(&inst, &mut numbers)?;
+    let lists = Lists {
+        splits: Vec::new(alloc),
+        waiting: Vec::new(alloc),
+    };
+    let mut kept = Node::of(&mut numbers, &inst, &all, lists, Growth::Free);
     assert_eq!(rt; (kept.number, kept.weight), (0, 10));
     assert_eq!(rt; (kept.bound, kept.greedy), (18, 27));
     assert_eq!(rt; kept.splits.len(), 0);
     // Test 1 would cost 10 + 18, which is more than greedy, so test 0 waits alone.
     assert_eq!(rt; kept.waiting.len(), 1);
-    kept.evaluate(&mut numbers, &inst, &all, 0)?;
+    let done = kept.evaluate(&mut numbers, &inst, &all, 0, Growth::Free);
+    assert!(rt; done);
     let first = Split {
         test: 0,
         pass: 1,
@@ -80,5 +88,16 @@ fn numbers_while_there_is_room(rt: HostRuntime) -> Result<(), Fail> {
     assert_eq!(rt; cost, 27);
     let tree = numbers.greedy_tree(alloc, &inst, &all)?;
     assert!(rt; matches!(tree, Strategy::Ask { test: 0, .. }));
+    Ok(())
+}
+
+#[test]
+fn room_for_three_groups(rt: HostRuntime) -> Result<(), Fail> {
+    let alloc = rt.alloc();
+    let inst = two_faults(alloc)?;
+    let graph = Graph::with_room(alloc, &inst, 3)?;
+    assert_eq!(rt; graph.rows.len(), 0);
+    assert_eq!(rt; graph.lists.len(), 3);
+    assert!(rt; graph.growth == Growth::Fixed);
     Ok(())
 }

@@ -1,16 +1,16 @@
 //! The tests of a group that wait to be evaluated. Each waits with a number that is at most its sum. The
 //! test that is evaluated next is the one of least number, until all numbers are above the least sum.
-ghost use Rattle.std.specs.Prelude.{◌≡◌, ◌<◌, ◌++◌, ◌∷◌, length, take, Contains, IfOk, IfSome, IfNone, []};
-ghost use Rattle.seq_graph.specs.declared.node.Split.{Split};
+ghost use Rattle.std.specs.Prelude.{◌≡◌, ◌<◌, ◌++◌, ◌∷◌, length, take, IfSome, IfNone, []};
 ghost use Rattle.seq_graph.specs.Known.{splits_at, waiting_at, IsGraphOf};
+ghost use Rattle.seq_graph.specs.Rooms.{KeepsRoom};
 ghost use Rattle.seq_graph.specs.Choice.{IsLeastWaiting, IsCertain};
 
 use crate::choice::Chosen;
 use crate::counts::count_new;
 use crate::graph::Graph;
-use crate::node::{Split, Waiting};
+use crate::node::{Growth, Split, Waiting};
+use crate::rooms::reserve_numbers;
 use seq_inst::Instance;
-use std::alloc::AllocError;
 
 /// The place of the test that waits with the least number, if any waits.
 fn least_waiting(waiting: &[Waiting]) -> Option<usize>
@@ -41,26 +41,46 @@ pub(crate) fn next_waiting(waiting: &[Waiting], chosen: Option<Chosen>) -> Optio
     }
 }
 
-/// Evaluates the test that waits at this place of the list. It is then the last of the evaluated ones.
-pub(crate) fn evaluate(
-    inst: &Instance,
-    graph: &mut Graph,
-    place: usize,
-    at: usize,
-) -> Result<Split, AllocError>
+/// The room that is made for numbers of parts, where lists may grow.
+const ROOM_FOR_PARTS: u32 = 512;
+
+/// Makes room for the numbers of two parts, where lists may grow and there is memory.
+fn make_room(inst: &Instance, graph: &mut Graph)
+    requires known { IsGraphOf inst.now graph.old }
+    ensures known { IsGraphOf inst.now graph.new }
+    ensures rows { graph.new.rows ≡ graph.old.rows }
+    ensures nodes { graph.new.nodes ≡ graph.old.nodes }
+    ensures keeps { KeepsRoom graph.old graph.new }
+{
+    if graph.growth == Growth::Free && graph.numbers.room() < 2 {
+        let _ = reserve_numbers(inst, graph, ROOM_FOR_PARTS, 0);
+    }
+}
+
+/// Evaluates the test that waits at this place of the list, where there is room. It is then the last of the
+/// evaluated ones.
+pub(crate) fn evaluate(inst: &Instance, graph: &mut Graph, place: usize, at: usize) -> Option<Split>
     requires known { IsGraphOf inst.now graph.old }
     requires place { place < length graph.old.rows.items }
     requires there { at < length (waiting_at graph.old.nodes.items place) }
-    ensures known { IfOk result (λ _. IsGraphOf inst.now graph.new) }
-    ensures rows { IfOk result (λ _. graph.new.rows.items ≡ graph.old.rows.items) }
-    ensures last { IfOk result (λ s. splits_at graph.new.nodes.items place ≡ splits_at graph.old.nodes.items place ++ s ∷ []) }
-    ensures before { IfOk result (λ _. take at (waiting_at graph.new.nodes.items place) ≡ take at (waiting_at graph.old.nodes.items place)) }
-    ensures listed { IfOk result (λ _. (s : Split) → Contains (splits_at graph.old.nodes.items place) s → Contains (splits_at graph.new.nodes.items place) s) }
-    ensures fewer { IfOk result (λ _. length (waiting_at graph.new.nodes.items place) < length (waiting_at graph.old.nodes.items place)) }
+    ensures known { IsGraphOf inst.now graph.new }
+    ensures rows { graph.new.rows ≡ graph.old.rows }
+    ensures keeps { KeepsRoom graph.old graph.new }
+    ensures last { IfSome result (λ s. splits_at graph.new.nodes.items place ≡ splits_at graph.old.nodes.items place ++ s ∷ []) }
+    ensures before { IfSome result (λ _. take at (waiting_at graph.new.nodes.items place) ≡ take at (waiting_at graph.old.nodes.items place)) }
+    ensures fewer { IfSome result (λ _. length (waiting_at graph.new.nodes.items place) < length (waiting_at graph.old.nodes.items place)) }
 {
+    make_room(inst, graph);
+    if graph.counts.capacity() < graph.numbers.capacity() as usize {
+        return None;
+    }
     let group = graph.rows[place].group;
-    graph.nodes[place].evaluate(&mut graph.numbers, inst, &group, at)?;
-    count_new(inst, &graph.numbers, &mut graph.counts)?;
-    let splits = graph.nodes[place].splits.as_slice();
-    Ok(splits[splits.len() - 1])
+    let growth = graph.growth;
+    let done = graph.nodes[place].evaluate(&mut graph.numbers, inst, &group, at, growth);
+    count_new(inst, &graph.numbers, &mut graph.counts);
+    if done {
+        let splits = graph.nodes[place].splits.as_slice();
+        return Some(splits[splits.len() - 1]);
+    }
+    None
 }

@@ -12,9 +12,10 @@ ghost use Rattle.seq_core.specs.Entered.{MayStop};
 ghost use Rattle.seq_graph.specs.Known.{IsGraphOf};
 ghost use Rattle.seq_solo.specs.Found.{BeginsWithAll, HasEnded};
 
+use crate::entering::enter_one;
 use crate::found::{Found, Walked};
 use crate::turn::turn;
-use seq_graph::{Graph, enter};
+use seq_graph::Graph;
 use seq_inst::{Instance, is_leaf, root};
 use std::alloc::{AllocError, Global};
 
@@ -38,7 +39,7 @@ pub fn walk(alloc: Global, inst: &Instance, limit: u32) -> Result<Walked, AllocE
             missed: None,
         });
     }
-    enter(alloc, inst, &mut graph, &all)?;
+    enter_one(alloc, inst, &mut graph, &all)?;
     'turns: while graph.rows[0].low != graph.rows[0].up {
         if let Some(missed) = turn(alloc, inst, limit, &mut graph, 0)? {
             return Ok(Walked {

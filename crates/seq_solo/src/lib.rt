@@ -9,6 +9,7 @@
 #![tactic(auto)]
 
 mod alone;
+mod entering;
 mod found;
 #[cfg(test)]
 mod tests;

@@ -5,7 +5,8 @@ ghost use Rattle.seq_inst.specs.Instances.{problem_of};
 ghost use Rattle.seq_graph.specs.Known.{AreSound, row_at, IsGraphOf};
 ghost use Rattle.seq_graph.specs.Walks.{HasTurned};
 
-use seq_graph::{Graph, Step, back_up, enter, next_step, turns_move};
+use crate::entering::enter_one;
+use seq_graph::{Graph, Step, back_up, next_step, turns_move};
 use seq_inst::{Answer, Group, Instance};
 use std::alloc::{AllocError, Global};
 
@@ -29,24 +30,24 @@ pub(crate) fn turn(
     ensures turned { IfOk result (HasTurned (problem_of inst.now) limit graph.old.rows.items graph.new.rows.items) }
 {
     turns_move();
-    match next_step(inst, graph, place, Answer::Pass)? {
+    match next_step(inst, graph, place, Answer::Pass) {
         Step::Enter { group } => {
             if graph.rows.len() >= limit as usize {
                 return Ok(Some(group));
             }
-            enter(alloc, inst, graph, &group)?;
-            back_up(inst, graph, place)?;
+            enter_one(alloc, inst, graph, &group)?;
+            back_up(inst, graph, place);
             Ok(None)
         }
         Step::Down { place: next } => {
             if let Some(group) = turn(alloc, inst, limit, graph, next)? {
                 return Ok(Some(group));
             }
-            back_up(inst, graph, place)?;
+            back_up(inst, graph, place);
             Ok(None)
         }
         Step::Close => {
-            back_up(inst, graph, place)?;
+            back_up(inst, graph, place);
             Ok(None)
         }
     }

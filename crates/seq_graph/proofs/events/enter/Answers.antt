@@ -14,8 +14,8 @@ give_back-requires-clause-place c =
     let old = c.args.graph.now.rows in
     let row : Row = record { group = c.args.group.now; low = 0; up = greedy_cost (problem_of c.args.inst.now) (members c.args.group.now) } in
     let place = c.len-place.ensures ∙ old.ok.0 in
-    let more = ap length (c.in_ok-add.ensures.rows) ∙ length-append old.items (row ∷ []) in
-    let long = length-Narrows c.add.new.graph.rows.items c.back_up.new.graph.rows.items c.in_ok-back_up.ensures.narrows in
+    let more = ap length (c.add.ensures.rows) ∙ length-append old.items (row ∷ []) in
+    let long = length-Narrows c.add.new.graph.rows.items c.back_up.new.graph.rows.items c.back_up.ensures.narrows in
     omega arith
 
 pub returns-clause-narrows : goal.returns-clause-narrows
@@ -26,8 +26,11 @@ returns-clause-narrows c =
     let first : Row = record { group = c.args.group.now; low = 0; up = no_value } in
     let row : Row = record { group = c.args.group.now; low = 0; up = greedy_cost p (members c.args.group.now) } in
     let small = c.args.inst.now.stands.greedy_fits c.args.group.now (wanted-within p (members c.args.group.now) c.requires.real.wanted) in
-    subst (Narrows (old ++ first ∷ [])) (sym c.give_back.ensures.rows)
-    (Narrows-trans (old ++ first ∷ []) (old ++ row ∷ []) new (Narrows-last old first row refl (omega arith) (omega arith)) (subst (λ l. Narrows l new) (c.in_ok-add.ensures.rows) c.in_ok-back_up.ensures.narrows))
+    subst (Narrows (old ++ first ∷ [])) (sym (ap (λ v. v.items) c.give_back.ensures.rows))
+    (Narrows-trans (old ++ first ∷ []) (old ++ row ∷ []) new (Narrows-last old first row refl (omega arith) (omega arith)) (subst (λ l. Narrows l new) (c.add.ensures.rows) c.back_up.ensures.narrows))
 
 pub returns-clause-sound : goal.returns-clause-sound
-returns-clause-sound c = λ sound. subst (AreSound (problem_of c.args.inst.now)) (sym c.give_back.ensures.rows) (c.in_ok-back_up.ensures.sound (c.in_ok-add.ensures.sound sound))
+returns-clause-sound c = λ sound. subst (AreSound (problem_of c.args.inst.now)) (sym (ap (λ v. v.items) c.give_back.ensures.rows)) (c.back_up.ensures.sound (c.add.ensures.sound sound))
+
+pub returns-clause-room : goal.returns-clause-room
+returns-clause-room c = λ more r. c.give_back.ensures.keeps more (c.back_up.ensures.keeps more (c.add.ensures.room more r))

@@ -11,13 +11,16 @@ prune-requires-clause-place c =
     omega arith
 
 pub returns-clause-rows : goal.returns-clause-rows
-returns-clause-rows c = c.prune.ensures.rows ∙ c.note.ensures.rows
+returns-clause-rows c = (ap (λ v. v.items) c.prune.ensures.rows) ∙ c.note.ensures.rows
 
 pub returns-clause-narrows : goal.returns-clause-narrows
-returns-clause-narrows c = subst (Narrows c.args.graph.now.rows.items) (sym c.prune.ensures.rows) c.note.ensures.narrows
+returns-clause-narrows c = subst (Narrows c.args.graph.now.rows.items) (sym (ap (λ v. v.items) c.prune.ensures.rows)) c.note.ensures.narrows
 
 pub returns-clause-closes : goal.returns-clause-closes
-returns-clause-closes c = λ le. subst (λ l. IsClosedAt l c.args.place) (sym c.prune.ensures.rows) (c.note.ensures.closes le)
+returns-clause-closes c = λ le. subst (λ l. IsClosedAt l c.args.place) (sym (ap (λ v. v.items) c.prune.ensures.rows)) (c.note.ensures.closes le)
 
 pub returns-clause-sound : goal.returns-clause-sound
-returns-clause-sound c = λ allow sound. subst (AreSound (problem_of c.args.inst.now)) (sym c.prune.ensures.rows) (c.note.ensures.sound allow sound)
+returns-clause-sound c = λ allow sound. subst (AreSound (problem_of c.args.inst.now)) (sym (ap (λ v. v.items) c.prune.ensures.rows)) (c.note.ensures.sound allow sound)
+
+pub returns-clause-keeps : goal.returns-clause-keeps
+returns-clause-keeps c = λ more r. c.prune.ensures.keeps more (c.note.ensures.keeps more r)

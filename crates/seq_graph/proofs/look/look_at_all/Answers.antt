@@ -25,7 +25,7 @@ have_ups-requires-clause-there c =
     let g = members (row_at s.rows.items c.args.place).group in
     let k = c.index-in-loop-at-2.result.now in
     let given = c.requires.place in
-    let same = ap length i.rows in
+    let same = ap (λ v. length v.items) i.rows in
     let place : c.args.place < length s.rows.items = omega arith in
     let of = kept-read p s.numbers s.rows.items s.nodes.items s.counts.items i.known c.args.place k place c.index-in-loop-at-2.ensures in
     let long = i.known.kept_are.as_many in
@@ -43,7 +43,7 @@ evaluate-requires-clause-there c =
     let s = c.loop-at.graph in
     let i = c.loop-at.invariant in
     let given = c.requires.place in
-    let same = ap length i.rows in
+    let same = ap (λ v. length v.items) i.rows in
     let long = i.known.kept_are.as_many in
     let one = ap length (waiting-read s.nodes.items c.args.place c.index-in-loop-at.result.now (omega arith) c.index-in-loop-at.ensures) in
     let fits = c.index-in-loop-at.result.now.waiting.ok.0 in
@@ -56,7 +56,7 @@ loop-at-smaller c =
     let s = c.loop-at.graph in
     let i = c.loop-at.invariant in
     let given = c.requires.place in
-    let same = ap length i.rows in
+    let same = ap (λ v. length v.items) i.rows in
     let long = i.known.kept_are.as_many in
     let one = ap length (waiting-read s.nodes.items c.args.place c.index-in-loop-at.result.now (omega arith) c.index-in-loop-at.ensures) in
     let fits = c.index-in-loop-at.result.now.waiting.ok.0 in
@@ -74,14 +74,14 @@ loop-at-preserved c =
     let w = c.index-in-loop-at-3.result.now in
     let xs = waiting_at s.nodes.items c.args.place in
     let given = c.requires.place in
-    let same = ap length i.rows in
+    let same = ap (λ v. length v.items) i.rows in
     let long = i.known.kept_are.as_many in
     let one = ap length (waiting-read s.nodes.items c.args.place c.index-in-loop-at.result.now (omega arith) c.index-in-loop-at.ensures) in
     let read = waiting-read s.nodes.items c.args.place k (omega arith) c.index-in-loop-at-2.ensures in
     let fits = c.index-in-loop-at.result.now.waiting.ok.0 in
     let len = c.len.ensures in
     let there = c.loop-at-test.true in
-    let row = get_or_read c.args.graph.now.rows.items c.args.place c.index.result.now c.requires.place c.index.ensures no_row ∙ ap (λ l. row_at l c.args.place) (sym i.rows) in
+    let row = get_or_read c.args.graph.now.rows.items c.args.place c.index.result.now c.requires.place c.index.ensures no_row ∙ ap (λ l. row_at l c.args.place) (sym (ap (λ v. v.items) i.rows)) in
     let none = no-value (f (members c.index.result.now.group) w.test) (sym c.if-have_ups.false ∙ c.have_ups.ensures) in
     let here : f (members (group_at s.rows.items c.args.place)) w.test ≡ None = subst (λ (r : Row). f (members r.group) w.test ≡ None) row none in
     let is = c.index-in-loop-at-3.ensures ∙ ap (λ l. get_or l c.loop-at.at w) (sym read) in
@@ -90,36 +90,20 @@ loop-at-preserved c =
       rows = i.rows;
       valued = subst (All (λ (x : Waiting). f (members (group_at s.rows.items c.args.place)) x.test ≡ None)) (sym (take_more xs c.loop-at.at w (omega arith)))
           (All-push (λ (x : Waiting). f (members (group_at s.rows.items c.args.place)) x.test ≡ None) (take c.loop-at.at xs) (get_or xs c.loop-at.at w) i.valued (subst (λ (x : Waiting). f (members (group_at s.rows.items c.args.place)) x.test ≡ None) is here));
-      listed = i.listed;
     }
 
 pub returns-clause-valued : goal.returns-clause-valued
-returns-clause-valued c =
+returns-clause-valued c = λ _.
     let s = c.loop-at.graph in
     let i = c.loop-at.invariant in
     let p = problem_of c.args.inst.now in
     let f = step_value p (known_up p (rows_from s.rows.items)) in
     let xs = waiting_at s.nodes.items c.args.place in
     let given = c.requires.place in
-    let same = ap length i.rows in
+    let same = ap (λ v. length v.items) i.rows in
     let long = i.known.kept_are.as_many in
     let one = ap length (waiting-read s.nodes.items c.args.place c.index-in-loop-at.result.now (omega arith) c.index-in-loop-at.ensures) in
     let fits = c.index-in-loop-at.result.now.waiting.ok.0 in
     let len = c.len.ensures in
     let end = c.loop-at-test.false in
     subst (All (λ (x : Waiting). f (members (group_at s.rows.items c.args.place)) x.test ≡ None)) (take_all c.loop-at.at xs (omega arith)) i.valued
-
-pub loop-at-preserved-in_ok-evaluate : goal.loop-at-preserved-in_ok-evaluate
-loop-at-preserved-in_ok-evaluate c =
-    let e = c.in_ok-evaluate.ensures in
-    let i = c.loop-at.invariant in
-    let p = problem_of c.args.inst.now in
-    let s = c.loop-at.graph in
-    let n = c.evaluate.new.graph in
-    record {
-      known = e.known;
-      rows = e.rows ∙ i.rows;
-      valued = subst (λ (rows : List Row). All (λ (x : Waiting). step_value p (known_up p (rows_from rows)) (members (group_at rows c.args.place)) x.test ≡ None) (take c.loop-at.at (waiting_at n.nodes.items c.args.place))) (sym e.rows)
-          (subst (All (λ (x : Waiting). step_value p (known_up p (rows_from s.rows.items)) (members (group_at s.rows.items c.args.place)) x.test ≡ None)) (sym e.before) i.valued);
-      listed = λ x there. e.listed x (i.listed x there);
-    }

@@ -46,9 +46,9 @@ loop-turn-preserved c =
     let lt : turn < length order = omega arith in
     let at : c.index.result.now ≡ slice_index order turn = get_or_read order turn c.index.result.now lt c.index.ensures 0 in
     record {
-      known = c.in_ok-settle_row.ensures.known;
-      sound = c.in_ok-settle_row.ensures.sound;
-      settling = subst (λ l. AreSettling p rows l (IsAmongFirst order (turn + 1))) (sym (c.in_ok-settle_row.ensures.rows ∙ ap (λ k. set now k (settled_row p (groups_in now) (row_at now k))) at))
+      known = c.settle_row.ensures.known;
+      sound = c.settle_row.ensures.sound;
+      settling = subst (λ l. AreSettling p rows l (IsAmongFirst order (turn + 1))) (sym (c.settle_row.ensures.rows ∙ ap (λ k. set now k (settled_row p (groups_in now) (row_at now k))) at))
           (c.turns_settle.ensures.next p rows now order turn by lt c.loop-turn.invariant.settling).1;
     }
 

@@ -22,13 +22,13 @@ returns-then-is_leaf-clause-stopped c =
     let rows = c.in_ok-graph.graph.rows.items in
     may-stop p c.args.limit rows None (nothing-solved p rows (sym (ap (is_end p) c.root-all.ensures.classes) ∙ sym c.is_leaf.ensures ∙ c.if-is_leaf.true))
 
-pub enter-requires-clause-real : goal.enter-requires-clause-real
-enter-requires-clause-real c = root-real (problem_of c.args.inst.now) c.root-all.result c.root-all.ensures.classes (sym c.is_leaf.ensures ∙ c.if-is_leaf.false)
+pub enter_one-requires-clause-real : goal.enter_one-requires-clause-real
+enter_one-requires-clause-real c = root-real (problem_of c.args.inst.now) c.root-all.result c.root-all.ensures.classes (sym c.is_leaf.ensures ∙ c.if-is_leaf.false)
 
 pub turns-init : goal.turns-init
 turns-init c = record {
-  known = c.in_ok-enter.ensures.known;
-  walk = begun (problem_of c.args.inst.now) c.args.limit c.root-all.result c.in_ok-graph.graph.rows.items c.enter.new.graph.rows.items c.requires.some c.root-all.ensures.classes c.in_ok-graph.ensures.rows (c.in_ok-enter.ensures.sound c.in_ok-graph.ensures.sound) c.in_ok-enter.ensures.narrows;
+  known = c.in_ok-enter_one.ensures.known;
+  walk = begun (problem_of c.args.inst.now) c.args.limit c.root-all.result c.in_ok-graph.graph.rows.items c.enter_one.new.graph.rows.items c.requires.some c.root-all.ensures.classes c.in_ok-graph.ensures.rows (c.in_ok-enter_one.ensures.sound c.in_ok-graph.ensures.sound) c.in_ok-enter_one.ensures.narrows;
 }
 
 pub turns-preserved : goal.turns-preserved

@@ -6,7 +6,8 @@ use Rattle.seq_theory.proofs.PartsRecursion.{splitting-there}
 use Rattle.seq_inst.specs.Members.{members}
 use Rattle.seq_inst.specs.Instances.{problem_of}
 use Rattle.seq_graph.specs.declared.node.Waiting.{Waiting}
-use Rattle.seq_graph.proofs.KeptLaws.{evaluated-keeps}
+use Rattle.seq_graph.proofs.KeptLaws.{evaluated-keeps, same-keeps}
+use Rattle.seq_graph.proofs.RoomLaws.{push-done, push-kept}
 use Rattle.seq_graph.proofs.node.Node.evaluate.Goals as goal
 
 pub split_by-requires-clause-there : goal.split_by-requires-clause-there
@@ -24,22 +25,35 @@ split_by-requires-clause-there c =
 same-entry : (xs : List Waiting) (k : ℕ) (read taken : Waiting) → k < length xs → read ≡ get_or xs k read → taken ≡ get_or xs k taken → read ≡ taken
 same-entry xs k read taken lt r t = r ∙ get_or_default xs k read taken lt ∙ sym t
 
-evaluated : goal.returns-clause-evaluated
-evaluated c =
+pub returns-clause-evaluated : goal.returns-clause-evaluated
+returns-clause-evaluated c = λ done.
     let many = c.args.self.now.waiting.ok.0 in
     let there : c.args.at < length c.args.self.now.waiting.items = omega arith in
     record {
       entry = c.swap_remove.result;
-      split = c.in_ok-split.split;
+      split = c.in-Some.split;
       waited = slice_get_read c.args.self.now.waiting.items (length c.args.self.now.waiting.items) c.args.at c.swap_remove.result refl there c.swap_remove.ensures.value;
       waiting = c.swap_remove.ensures.items;
-      test_is = c.in_ok-split.ensures.test ∙ ap (λ (w : Waiting). w.test) (same-entry c.args.self.now.waiting.items c.args.at c.index.result.now c.swap_remove.result there c.index.ensures c.swap_remove.ensures.value);
-      parts = c.in_ok-split.ensures.parts;
-      splits = c.in_ok-push.ensures.items;
+      test_is = c.in-Some.ensures.test ∙ ap (λ (w : Waiting). w.test) (same-entry c.args.self.now.waiting.items c.args.at c.index.result.now c.swap_remove.result there c.index.ensures c.swap_remove.ensures.value);
+      parts = c.in-Some.ensures.parts;
+      splits = push-done c.push.result c.args.self.now.splits.items c.push.new.self.items c.in-Some.split (sym c.is_err.ensures.value ∙ c.if-is_err.false) c.push.ensures.items;
     }
 
-pub returns-clause-evaluated : goal.returns-clause-evaluated
-returns-clause-evaluated c = evaluated c
+pub returns-then-is_err-clause-tests : goal.returns-then-is_err-clause-tests
+returns-then-is_err-clause-tests c =
+    same-keeps (problem_of c.args.inst.now) (members c.args.group.now) c.args.numbers.now c.split_by.new.numbers c.args.self.now (record { number = c.args.self.now.number; weight = c.args.self.now.weight; bound = c.args.self.now.bound; greedy = c.args.self.now.greedy; most = c.args.self.now.most; splits = c.push.new.self; waiting = c.args.self.now.waiting }) c.split_by.ensures.keeps
+    (push-kept c.push.result c.args.self.now.splits.items c.push.new.self.items c.in-Some.split (sym c.is_err.ensures.value ∙ c.if-is_err.true) c.push.ensures.items) refl
 
 pub returns-clause-tests : goal.returns-clause-tests
-returns-clause-tests c = evaluated-keeps (problem_of c.args.inst.now) (members c.args.group.now) c.args.numbers.now c.split_by.new.numbers c.in_ok-split.ensures.keeps c.args.at c.args.self.now _ (evaluated c)
+returns-clause-tests c =
+    let many = c.args.self.now.waiting.ok.0 in
+    let there : c.args.at < length c.args.self.now.waiting.items = omega arith in
+    evaluated-keeps (problem_of c.args.inst.now) (members c.args.group.now) c.args.numbers.now c.split_by.new.numbers c.split_by.ensures.keeps c.args.at c.args.self.now (record { number = c.args.self.now.number; weight = c.args.self.now.weight; bound = c.args.self.now.bound; greedy = c.args.self.now.greedy; most = c.args.self.now.most; splits = c.push.new.self; waiting = c.swap_remove.new.self }) (record {
+      entry = c.swap_remove.result;
+      split = c.in-Some.split;
+      waited = slice_get_read c.args.self.now.waiting.items (length c.args.self.now.waiting.items) c.args.at c.swap_remove.result refl there c.swap_remove.ensures.value;
+      waiting = c.swap_remove.ensures.items;
+      test_is = c.in-Some.ensures.test ∙ ap (λ (w : Waiting). w.test) (same-entry c.args.self.now.waiting.items c.args.at c.index.result.now c.swap_remove.result there c.index.ensures c.swap_remove.ensures.value);
+      parts = c.in-Some.ensures.parts;
+      splits = push-done c.push.result c.args.self.now.splits.items c.push.new.self.items c.in-Some.split (sym c.is_err.ensures.value ∙ c.if-is_err.false) c.push.ensures.items;
+    })

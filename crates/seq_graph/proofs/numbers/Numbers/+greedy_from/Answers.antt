@@ -4,7 +4,7 @@ use Rattle.seq_theory.specs.Problem.{fail_part}
 use Rattle.seq_inst.specs.Members.{members}
 use Rattle.seq_inst.specs.Instances.{problem_of}
 use Rattle.seq_theory.proofs.GreedyParts.{cost-end, greedy_there, greedy_parts}
-use Rattle.seq_graph.proofs.GreedyChoiceLaws.{greedy-step}
+use Rattle.seq_graph.proofs.GreedyChoiceLaws.{greedy-step, number_room-both}
 use Rattle.seq_graph.proofs.numbers.Numbers.+greedy_from.Goals as goal
 
 pub returns-then-is_leaf-clause-value : goal.returns-then-is_leaf-clause-value
@@ -77,8 +77,8 @@ keep_greedy-requires-clause-greedy t c =
 pub returns-clause-keeps : goal.returns-clause-keeps
 returns-clause-keeps t c g n e = c.keep_greedy.ensures.keeps g n (c.greedy_from-fail.ensures.keeps g n (c.greedy_from-pass.ensures.keeps g n (c.greedy_test-test.ensures.keeps g n e)))
 
-pub returns-clause-capacity : goal.returns-clause-capacity
-returns-clause-capacity t c = c.keep_greedy.ensures.capacity ∙ c.greedy_from-fail.ensures.capacity ∙ c.greedy_from-pass.ensures.capacity ∙ c.greedy_test-test.ensures.capacity
+pub returns-clause-room : goal.returns-clause-room
+returns-clause-room t c = number_room-both _ _ _ (number_room-both _ _ _ c.greedy_test-test.ensures.room (number_room-both _ _ _ c.greedy_from-pass.ensures.room c.greedy_from-fail.ensures.room)) c.keep_greedy.ensures.room
 
 pub returns-clause-value : goal.returns-clause-value
 returns-clause-value t c =

@@ -8,6 +8,7 @@ use Rattle.seq_inst.specs.Members.{members}
 use Rattle.seq_inst.specs.Instances.{problem_of}
 use Rattle.seq_inst.specs.Trees.{tree_of}
 use Rattle.seq_theory.proofs.GreedyParts.{greedy_there, greedy_parts}
+use Rattle.seq_graph.proofs.GreedyChoiceLaws.{number_room-both}
 use Rattle.seq_graph.proofs.numbers.Numbers.+greedy_tree.Goals as goal
 
 pub returns-then-is_leaf-clause-value : goal.returns-then-is_leaf-clause-value
@@ -42,8 +43,8 @@ greedy_tree-requires-2 t c =
 pub returns-clause-keeps : goal.returns-clause-keeps
 returns-clause-keeps t c g n e = c.greedy_tree-2.ensures.keeps g n (c.greedy_tree.ensures.keeps g n (c.greedy_choice-test.ensures.keeps g n e))
 
-pub returns-clause-capacity : goal.returns-clause-capacity
-returns-clause-capacity t c = c.greedy_tree-2.ensures.capacity ∙ c.greedy_tree.ensures.capacity ∙ c.greedy_choice-test.ensures.capacity
+pub returns-clause-room : goal.returns-clause-room
+returns-clause-room t c = number_room-both _ _ _ (number_room-both _ _ _ c.greedy_choice-test.ensures.room c.greedy_tree.ensures.room) c.greedy_tree-2.ensures.room
 
 pub returns-clause-value : goal.returns-clause-value
 returns-clause-value t c =

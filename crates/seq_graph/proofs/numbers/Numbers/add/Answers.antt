@@ -50,4 +50,4 @@ returns-clause-added c =
     let absent : is_entered (map classes_of (keys old)) (members g) ≡ false = subst (λ (v : Numbered). is_entered v.groups (members g) ≡ false) (sym c.self.view_is) c.requires.absent in
     let entries : c.insert.new.self.entries ≡ old.entries ++ (g.0, c.args.bound) ∷ [] = inserted c.insert.result _ _ (c.insert.ensures.succeeds (omega arith)) c.insert.ensures.entries ∙ insert_entry-new bytes_eq old g.0 c.args.bound (absent-key old.entries g.0 absent) in
     let items : c.push.new.self.items ≡ c.self.inside.greedy.items ++ None ∷ [] = pushed c.push.result _ _ (c.push.ensures.succeeds (omega arith)) c.push.ensures.items in
-    view-more c.self.inside.memo old.entries c.insert.new.self.entries g.0 c.args.bound c.self.inside.greedy.items c.push.new.self.items c.self.inside.room entries items c.args.self.now c.self.view_is
+    view-more c.self.inside.memo old.entries c.insert.new.self.entries g.0 c.args.bound c.self.inside.greedy.items c.push.new.self.items c.self.inside.room c.self.inside.held entries items c.args.self.now c.self.view_is

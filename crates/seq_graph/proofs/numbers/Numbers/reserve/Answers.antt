@@ -3,4 +3,4 @@ use Rattle.seq_graph.proofs.numbers.Numbers.reserve.Goals as goal
 
 pub returns-clause-numbers : goal.returns-clause-numbers
 returns-clause-numbers c p are =
-    numbers-reserved p c.self.inside.memo c.self.inside.bounds.entries _ c.self.inside.greedy.items _ c.self.inside.room c.args.more c.args.self.now c.reserve.ensures.entries c.reserve-2.ensures.items c.self.view_is are
+    numbers-reserved p c.self.inside.memo c.self.inside.bounds.entries _ c.self.inside.greedy.items _ c.self.inside.room c.self.inside.held _ _ c.args.self.now c.reserve.ensures.entries c.reserve-2.ensures.items c.self.view_is are

@@ -2,7 +2,7 @@ use Rattle.std.proofs.Common.{◌∙◌, arith}
 use Rattle.seq_inst.specs.Members.{members}
 use Rattle.seq_inst.specs.Instances.{problem_of}
 use Rattle.seq_theory.proofs.PartsRecursion.{splitting-there}
-use Rattle.seq_graph.proofs.GreedyChoiceLaws.{first-none, first-more, chosen-greedy}
+use Rattle.seq_graph.proofs.GreedyChoiceLaws.{first-none, first-more, chosen-greedy, number_room-both}
 use Rattle.seq_graph.proofs.numbers.Numbers.test_by.Goals as goal
 
 pub bound_sum-sum-requires-clause-there : goal.bound_sum-sum-requires-clause-there
@@ -18,13 +18,13 @@ loop-test-init c = first-none (problem_of c.args.inst.now) (members c.args.group
 pub loop-test-preserved : goal.loop-test-preserved
 loop-test-preserved c =
     first-more (problem_of c.args.inst.now) (members c.args.group.now) _ c.loop-test.self c.better-chosen.new.self c.loop-test.test c.loop-test.chosen c.better-chosen.result c.loop-test.invariant
-    c.better-chosen.ensures.numbers c.better-chosen.ensures.keeps c.better-chosen.ensures.capacity c.better-chosen.ensures.evaluated c.better-chosen.ensures.earlier c.better-chosen.ensures.test
+    c.better-chosen.ensures.numbers c.better-chosen.ensures.keeps c.better-chosen.ensures.room c.better-chosen.ensures.evaluated c.better-chosen.ensures.earlier c.better-chosen.ensures.test
 
 pub returns-clause-keeps : goal.returns-clause-keeps
 returns-clause-keeps c g n e = c.loop-test.invariant.keeps g n (c.bound_sum-sum.ensures.keeps g n e)
 
-pub returns-clause-capacity : goal.returns-clause-capacity
-returns-clause-capacity c = c.loop-test.invariant.capacity ∙ c.bound_sum-sum.ensures.capacity
+pub returns-clause-room : goal.returns-clause-room
+returns-clause-room c = number_room-both _ _ _ c.bound_sum-sum.ensures.room c.loop-test.invariant.room
 
 pub returns-clause-test : goal.returns-clause-test
 returns-clause-test c =
