@@ -13,4 +13,5 @@ pub mod Choice
 pub mod Parts
 pub mod Steps
 pub mod Walks
+pub mod Behind
 pub mod Laws

@@ -19,6 +19,7 @@ mod bounds;
 mod choice;
 mod counts;
 mod events;
+mod finding;
 mod graph;
 mod greedy;
 mod laws;
@@ -38,6 +39,7 @@ mod waiting;
 
 pub use bounds::{Bounds, backed_up};
 pub use events::{add, back_up, enter, hear};
+pub use finding::place_of;
 pub use graph::{Count, Graph};
 pub use laws::turns_move;
 pub use node::{Growth, Lists, Node, Split, Waiting};
