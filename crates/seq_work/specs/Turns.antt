@@ -1,7 +1,9 @@
 -- What one turn of a worker does.
-use Rattle.std.specs.Prelude.{◌≢◌, ℕ, ◌<◌, Option, Some, None}
+use Rattle.std.specs.Prelude.{cond, nat_eq, ◌%◌, ◌≢◌, ℕ, ◌<◌, Option, Some, None}
 use Rattle.seq_inst.specs.declared.instance.Instance.{Instance}
 use Rattle.seq_inst.specs.declared.group.Group.{Group}
+use Rattle.seq_inst.specs.declared.parts.Answer.{Answer}
+use Rattle.seq_inst.specs.declared.parts.Answer.TheVariants.{Pass, Fail}
 use Rattle.seq_inst.specs.Members.{members}
 use Rattle.seq_inst.specs.Instances.{problem_of}
 use Rattle.seq_theory.specs.Graph.{IsReal}
@@ -15,6 +17,10 @@ pub record IsFullFor (inst : Instance) (words : Wording) (seat : Sitting) (misse
   pub real : IsReal (problem_of inst) (members missed)
   pub known : (place : ℕ) → place < words.limit → IsKnown place seat.view
   pub other : (place : ℕ) → place < words.limit → group_at place seat.view ≢ members missed
+
+-- a worker of even number looks at the passing part first, and one of odd number at the failing part
+abbrev pub first_answer : ℕ → Answer
+first_answer number = cond (nat_eq (number % 2) 0) Pass Fail
 
 -- the worker has entered a group or closed one, so less is left to do; or a group found no place
 abbrev pub HasWorked : Instance → Wording → Sitting → Local → Local → Option Group → Type 0

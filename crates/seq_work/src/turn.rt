@@ -5,7 +5,7 @@ ghost use Rattle.seq_graph.specs.Known.{row_at};
 ghost use Rattle.seq_words.specs.Knowledge.{Covers};
 ghost use Rattle.seq_words.specs.Seats.{IsOf};
 ghost use Rattle.seq_work.specs.Works.{Ready};
-ghost use Rattle.seq_work.specs.Turns.{HasWorked};
+ghost use Rattle.seq_work.specs.Turns.{HasWorked, first_answer};
 
 use crate::backing::back_up;
 use crate::entering::list;
@@ -20,7 +20,9 @@ use std::sync::Wait;
 
 /// Of the two parts by a test a worker of even number looks at the passing one first, and one of odd number at
 /// the failing one, so that they part ways.
-fn first_of(number: u32) -> Answer {
+fn first_of(number: u32) -> Answer
+    ensures { result ≡ first_answer number }
+{
     if number % 2 == 0 {
         Answer::Pass
     } else {
