@@ -1,6 +1,6 @@
 -- What a worker's turn rests on. Its rows stand in the view of its seat, so what they allow the view allows; what the words answer is
 -- true of the group; and after each step of the seat, and each that the graph hears, the worker is ready still.
-use Rattle.std.proofs.Common.{◌≡◌, ℕ, ◌<◌, ◌≤◌, List, [], ◌∷◌, ◌++◌, length, set, sym, ◌∙◌, subst, arith, All}
+use Rattle.std.proofs.Common.{◌≡◌, ℕ, ◌-◌, ◌<◌, ◌≤◌, List, [], ◌∷◌, ◌++◌, length, length-append, length-set, set, vec_capacity, sym, ap, ◌∙◌, subst, arith, All}
 use Rattle.std.specs.List.{AllZip, filter_map}
 use Rattle.std.specs.Prelude.{slice_index}
 use Rattle.seq_theory.specs.Problem.{splitting}
@@ -15,6 +15,7 @@ use Rattle.seq_inst.specs.declared.outcome.Row.{Row}
 use Rattle.seq_inst.specs.Members.{members}
 use Rattle.seq_inst.specs.Instances.{problem_of}
 use Rattle.seq_core.specs.RowsOf.{rows_of as rows_from}
+use Rattle.seq_graph.specs.Rooms.{HasRoom, KeepsRoom, UsesRoomOfOne}
 use Rattle.seq_graph.specs.Known.{IsKnown as IsGraph, no_row, row_at, group_at as row_group, heard}
 use Rattle.seq_words.specs.declared.view.Told.{Told}
 use Rattle.seq_words.specs.declared.view.View.{View}
@@ -91,23 +92,31 @@ module _ (inst : Instance) (words : Wording) (seat : Sitting) (l : Local) (r : R
     alone = alone;
     graph = r.graph;
     standing = zip-weaker (StandsAt seat.view) (StandsAt next.view) (λ x q s. moved seat.view next.view covers x q s) l.graph.rows.items l.places.items r.standing;
+    room = r.room;
+    places_room = r.places_room;
   }
 
+  -- as many rows leave as much room
+  same-room : (m : Local) → KeepsRoom l.graph m.graph → length m.graph.rows.items ≡ length l.graph.rows.items → HasRoom (words.limit - length m.graph.rows.items) m.graph
+  same-room m keeps long = subst (λ n. HasRoom (words.limit - n) m.graph) (sym long) (keeps (words.limit - length l.graph.rows.items) r.room)
+
   -- the graph has worked something out
-  pub graph-same : (m : Local) → IsGraph (problem_of inst) m.graph → m.graph.rows.items ≡ l.graph.rows.items → m.places.items ≡ l.places.items → Ready inst words seat m
-  graph-same m known rows places = record {
+  pub graph-same : (m : Local) → IsGraph (problem_of inst) m.graph → KeepsRoom l.graph m.graph → m.graph.rows.items ≡ l.graph.rows.items → m.places.items ≡ l.places.items → vec_capacity m.places ≡ vec_capacity l.places → Ready inst words seat m
+  graph-same m known keeps rows places capacity = record {
     of = r.of;
     told = r.told;
     limit = r.limit;
     alone = r.alone;
     graph = known;
     standing = subst (λ xs. AllZip (StandsAt seat.view) xs m.places.items) (sym rows) (subst (AllZip (StandsAt seat.view) l.graph.rows.items) (sym places) r.standing);
+    room = same-room m keeps (ap (λ (xs : List Row). length xs) rows);
+    places_room = let p = r.places_room in omega arith;
   }
 
   -- a group has heard bounds that its place has, too
-  pub graph-heard : (m : Local) (node low up : ℕ) → IsGraph (problem_of inst) m.graph → node < length l.graph.rows.items → m.graph.rows.items ≡ set l.graph.rows.items node (heard low up (row_at l.graph.rows.items node))
-      → m.places.items ≡ l.places.items → low ≤ low_seen (slice_index l.places.items node) seat.view → up_seen (slice_index l.places.items node) seat.view ≤ up → Ready inst words seat m
-  graph-heard m node low up known lt rows places below above =
+  pub graph-heard : (m : Local) (node low up : ℕ) → IsGraph (problem_of inst) m.graph → KeepsRoom l.graph m.graph → node < length l.graph.rows.items → m.graph.rows.items ≡ set l.graph.rows.items node (heard low up (row_at l.graph.rows.items node))
+      → m.places.items ≡ l.places.items → vec_capacity m.places ≡ vec_capacity l.places → low ≤ low_seen (slice_index l.places.items node) seat.view → up_seen (slice_index l.places.items node) seat.view ≤ up → Ready inst words seat m
+  graph-heard m node low up known keeps lt rows places capacity below above =
       let s = stands node lt in
       let a = s.low in
       let b = s.up in
@@ -120,12 +129,14 @@ module _ (inst : Instance) (words : Wording) (seat : Sitting) (l : Local) (r : R
         standing = subst (λ xs. AllZip (StandsAt seat.view) xs m.places.items) (sym rows) (subst (AllZip (StandsAt seat.view) (set l.graph.rows.items node (heard low up (row_at l.graph.rows.items node)))) (sym places)
             (zip-set (StandsAt seat.view) l.graph.rows.items l.places.items node (heard low up (row_at l.graph.rows.items node)) 0 r.standing lt
             (record { known = s.known; group = s.group; low = omega arith; up = omega arith })));
+        room = same-room m keeps (ap (λ (xs : List Row). length xs) rows ∙ length-set l.graph.rows.items node (heard low up (row_at l.graph.rows.items node)));
+        places_room = let p = r.places_room in omega arith;
       }
 
   -- a group was given a row at its place
-  pub graph-listed : (m : Local) (g : Group) (place up : ℕ) → IsGraph (problem_of inst) m.graph → m.graph.rows.items ≡ l.graph.rows.items ++ record { group = g; low = 0; up = up } ∷ [] → m.places.items ≡ l.places.items ++ place ∷ []
+  pub graph-listed : (m : Local) (g : Group) (place up : ℕ) → IsGraph (problem_of inst) m.graph → UsesRoomOfOne l.graph m.graph → length l.graph.rows.items < words.limit → m.graph.rows.items ≡ l.graph.rows.items ++ record { group = g; low = 0; up = up } ∷ [] → m.places.items ≡ l.places.items ++ place ∷ [] → vec_capacity m.places ≡ vec_capacity l.places
       → IsKnown place seat.view → group_at place seat.view ≡ members g → up_seen place seat.view ≤ up → Ready inst words seat m
-  graph-listed m g place up known rows places there group above = record {
+  graph-listed m g place up known uses few rows places capacity there group above = record {
     of = r.of;
     told = r.told;
     limit = r.limit;
@@ -134,4 +145,9 @@ module _ (inst : Instance) (words : Wording) (seat : Sitting) (l : Local) (r : R
     standing = subst (λ xs. AllZip (StandsAt seat.view) xs m.places.items) (sym rows) (subst (AllZip (StandsAt seat.view) (l.graph.rows.items ++ record { group = g; low = 0; up = up } ∷ [])) (sym places)
         (zip-last (StandsAt seat.view) l.graph.rows.items l.places.items (record { group = g; low = 0; up = up }) place r.standing
         (record { known = there; group = group; low = omega arith; up = above })));
+    room =
+        let long = ap (λ (xs : List Row). length xs) rows in
+        let one = length-append l.graph.rows.items (record { group = g; low = 0; up = up } ∷ []) in
+        uses (words.limit - length m.graph.rows.items) (subst (λ n. HasRoom n l.graph) (omega arith) r.room);
+    places_room = let p = r.places_room in omega arith;
   }

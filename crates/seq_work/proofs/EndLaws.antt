@@ -4,7 +4,6 @@
 use Rattle.std.proofs.Common.{◌≡◌, ◌≢◌, ◌⊎◌, inl, inr, ℕ, zero, suc, ◌+◌, ◌-◌, ◌<◌, ◌≤◌, Bool, true, false, ◌||◌, List, [], ◌∷◌, ◌++◌, length, get_or, drop, replicate, refl, sym, ap, ◌∙◌, subst, arith, true≢false, All, Option, Some, None, get_or-drop}
 use Rattle.std.specs.Prelude.{IfSome, IsSome}
 use Rattle.std.specs.List.{AllZip}
-use Rattle.std.proofs.lemmas.List.{get_or_past}
 use Rattle.std.proofs.Math.ListN.{get_or-append}
 use Rattle.std.proofs.Math.Seq.{get_or-append_right}
 use mathlib.Core.Logic.{dite}
@@ -25,6 +24,7 @@ use Rattle.seq_core.specs.RowsOf.{row_of as row_from, rows_of as rows_from}
 use Rattle.seq_core.specs.Settled.{groups_in}
 use Rattle.seq_core.specs.Entered.{MayStop, IsFull}
 use Rattle.seq_graph.specs.Known.{row_at, group_at}
+use Rattle.seq_graph.specs.Behind.{IsBehind, AreBehind}
 use Rattle.seq_words.specs.declared.view.Told.{Told}
 use Rattle.seq_words.specs.declared.view.View.{View}
 use Rattle.seq_words.specs.Knowledge.{told_of, problem_in}
@@ -32,10 +32,12 @@ use Rattle.seq_words.specs.Seats.{Wording, Sitting}
 use Rattle.seq_words.specs.Closing.{AreOf}
 use Rattle.seq_work.specs.declared.local.Local.{Local}
 use Rattle.seq_work.specs.declared.work.WorkEnd.{WorkEnd}
-use Rattle.seq_work.specs.declared.work.WorkEnd.TheVariants.{Solved, Full, OutOfMemory}
+use Rattle.seq_work.specs.declared.work.WorkEnd.TheVariants.{Solved, Full}
+use Rattle.seq_work.specs.Works.{StandsAt, Ready}
 use Rattle.seq_work.specs.Turns.{IsFullFor}
 use Rattle.seq_work.specs.Ends.{KnowsRoot, IsClosedFor}
 use Rattle.seq_work.specs.Fans.{WorkedAt, AreDone}
+use Rattle.seq_work.proofs.Zips.{zip-length}
 use Rattle.seq_work.specs.Searches.{BeginsWithAll, IsSolved, HasCause, end_of, HaveEnded, first_missed}
 
 -- ---- rows ----
@@ -78,6 +80,37 @@ reaches : (n : ℕ) (rows : List Row) → ((k : ℕ) → k < n → k < length ro
 reaches zero rows h = omega arith
 reaches (suc n) rows h = let x = h n (omega arith) in omega arith
 
+-- ---- what a worker knows ----
+
+one-behind : (v : View) (rows : List Row) → AreOf v rows → (r : Row) (place : ℕ) → StandsAt v r place → IsBehind rows r
+one-behind v rows a r place s =
+    let h = a place s.known.0 in
+    record {
+      place = place;
+      of = record { there = h.there; same = ap classes_of (h.group s.known.1) ∙ s.group };
+      low = (let x = h.low in let y = s.low in omega arith);
+      up = (let x = h.up in let y = s.up in omega arith);
+    }
+
+-- its rows are behind the closed ones
+pub behind : (v : View) (rows : List Row) → AreOf v rows → (own : List Row) (places : List ℕ) → AllZip (StandsAt v) own places → AreBehind rows own
+behind v rows a [] places z k d lt = absurd (let bad : ⊥ = omega arith in bad)
+behind v rows a (r ∷ rest) [] z k d lt = absurd z
+behind v rows a (r ∷ rest) (q ∷ qs) z zero d lt = one-behind v rows a r q z.0
+behind v rows a (r ∷ rest) (q ∷ qs) z (suc k) d lt = behind v rows a rest qs z.1 k d (omega arith)
+
+-- the last worker with its seat
+pub last-ready : (inst : Instance) (w : Wording) (rows : List Row) (seats : List Sitting) (front : List Local) (x : Local) → AllZip (Ready inst w) seats (front ++ x ∷ []) → All (λ (s : Sitting). AreOf s.view rows) seats
+    → (s : Sitting) × Ready inst w s x × AreOf s.view rows
+last-ready inst w rows [] [] x z a = absurd z
+last-ready inst w rows [] (f ∷ fs) x z a = absurd z
+last-ready inst w rows (s ∷ ss) [] x z a = (s, z.0, a 0 s (omega arith))
+last-ready inst w rows (s ∷ ss) (f ∷ fs) x z a = last-ready inst w rows ss fs x z.1 (λ k d lt. a (suc k) d (omega arith))
+
+-- there are as many workers as ends
+pub as-many : (inst : Instance) (w : Wording) (seats : List Sitting) (locals : List Local) (ends : List (Option WorkEnd)) → AreDone inst w seats locals ends → length locals ≡ length ends
+as-many inst w seats locals ends done = sym (zip-length (Ready inst w) seats locals done.ready) ∙ zip-length (WorkedAt inst w) seats ends done.ended
+
 -- ---- the group of all classes ----
 
 pub begins : (p : Problem) (rows : List Row) (v : View) → KnowsRoot p v → AreOf v rows → BeginsWithAll p rows
@@ -113,15 +146,6 @@ filled n ends = ends ++ drop n (replicate 16 None)
 
 past-ends : (n : ℕ) (ends : List (Option WorkEnd)) (k : ℕ) → length ends ≡ n → n ≤ k → end_of (filled n ends) k ≡ None
 past-ends n ends k long past = get_or-append_right ends (drop n (replicate 16 None)) k None (omega arith) ∙ (get_or-drop n (replicate 16 None) (k - length ends) None ∙ same-default None 16 (n + (k - length ends)))
-
--- no worker found too little memory, where none did of those with none after the last
-pub short-front : (ends : List (Option WorkEnd)) (n : ℕ) → length ends ≡ n → ((k : ℕ) → end_of (filled n ends) k ≡ Some OutOfMemory → ⊥) → (k : ℕ) → end_of ends k ≡ Some OutOfMemory → ⊥
-short-front ends n long short k e = dite (dec_le n k)
-    (λ past. no-short (get_or_past ends k None (omega arith)) e)
-    (λ there. short k (get_or-append ends (drop n (replicate 16 None)) None k (omega arith) ∙ e))
-  where
-    no-short : {o : Option WorkEnd} → o ≡ None → o ≡ Some OutOfMemory → ⊥
-    no-short a b = let bad : ⊥ = cc in bad
 
 module _ (inst : Instance) (limit : ℕ) (rows : List Row) (sound : IsSound (problem_of inst) limit (rows_from rows)) where
   -- where the up of a row is no more than its low, these are equal, and so are the group's low and its value
@@ -176,35 +200,33 @@ module _ (inst : Instance) (limit : ℕ) (rows : List Row) (sound : IsSound (pro
 
   -- ---- the ends ----
 
-  one-cause : (w : Wording) (s : Sitting) (end : Option WorkEnd) → w.limit ≡ limit → BeginsWithAll (problem_of inst) rows → WorkedAt inst w s end → AreOf s.view rows → (end ≡ Some OutOfMemory → ⊥)
+  one-cause : (w : Wording) (s : Sitting) (end : Option WorkEnd) → w.limit ≡ limit → BeginsWithAll (problem_of inst) rows → WorkedAt inst w s end → AreOf s.view rows
       → IsSome end × IfSome end (HasCause (problem_of inst) limit rows)
-  one-cause w s None is b z a n = (z.some, tt)
-  one-cause w s (Some Solved) is b z a n = (z.some, solved-cause s.view a b z.cause)
-  one-cause w s (Some (Full g)) is b z a n = (z.some, full-cause w s g is a z.cause)
-  one-cause w s (Some OutOfMemory) is b z a n = absurd (n refl)
+  one-cause w s None is b z a = (z.some, tt)
+  one-cause w s (Some Solved) is b z a = (z.some, solved-cause s.view a b z.cause)
+  one-cause w s (Some (Full g)) is b z a = (z.some, full-cause w s g is a z.cause)
 
   front-causes : (w : Wording) (seats : List Sitting) (ends : List (Option WorkEnd)) → w.limit ≡ limit → BeginsWithAll (problem_of inst) rows → AllZip (WorkedAt inst w) seats ends → All (λ (s : Sitting). AreOf s.view rows) seats
-      → ((k : ℕ) → end_of ends k ≡ Some OutOfMemory → ⊥) → (k : ℕ) → k < length ends → IsSome (end_of ends k) × IfSome (end_of ends k) (HasCause (problem_of inst) limit rows)
-  front-causes w seats [] is b z a n k lt = absurd (let bad : ⊥ = omega arith in bad)
-  front-causes w [] (e ∷ es) is b z a n k lt = absurd z
-  front-causes w (s ∷ ss) (e ∷ es) is b z a n zero lt = one-cause w s e is b z.0 (a 0 s (omega arith)) (n 0)
-  front-causes w (s ∷ ss) (e ∷ es) is b z a n (suc k) lt = front-causes w ss es is b z.1 (λ j d l. a (suc j) d (omega arith)) (λ j. n (suc j)) k (omega arith)
+      → (k : ℕ) → k < length ends → IsSome (end_of ends k) × IfSome (end_of ends k) (HasCause (problem_of inst) limit rows)
+  front-causes w seats [] is b z a k lt = absurd (let bad : ⊥ = omega arith in bad)
+  front-causes w [] (e ∷ es) is b z a k lt = absurd z
+  front-causes w (s ∷ ss) (e ∷ es) is b z a zero lt = one-cause w s e is b z.0 (a 0 s (omega arith))
+  front-causes w (s ∷ ss) (e ∷ es) is b z a (suc k) lt = front-causes w ss es is b z.1 (λ j d l. a (suc j) d (omega arith)) k (omega arith)
 
-  one-end : (w : Wording) (seats : List Sitting) (ends : List (Option WorkEnd)) (n : ℕ) → w.limit ≡ limit → BeginsWithAll (problem_of inst) rows → AllZip (WorkedAt inst w) seats ends → All (λ (s : Sitting). AreOf s.view rows) seats → length ends ≡ n
-      → ((k : ℕ) → end_of (filled n ends) k ≡ Some OutOfMemory → ⊥) → (k : ℕ) → k < n → IsSome (end_of (filled n ends) k) × IfSome (end_of (filled n ends) k) (HasCause (problem_of inst) limit rows)
-  one-end w seats ends n is b ended a long short k lt =
-      let at : (j : ℕ) → j < n → end_of (filled n ends) j ≡ end_of ends j = λ j l. get_or-append ends (drop n (replicate 16 None)) None j (omega arith) in
-      let front = front-causes w seats ends is b ended a (short-front ends n long short) k (omega arith) in
-      subst (λ (o : Option WorkEnd). IsSome o × IfSome o (HasCause (problem_of inst) limit rows)) (sym (at k lt)) front
+  one-end : (w : Wording) (seats : List Sitting) (locals : List Local) (ends : List (Option WorkEnd)) (n : ℕ) → w.limit ≡ limit → BeginsWithAll (problem_of inst) rows → AreDone inst w seats locals ends → All (λ (s : Sitting). AreOf s.view rows) seats
+      → length ends ≡ n → (k : ℕ) → k < n → IsSome (end_of (filled n ends) k) × IfSome (end_of (filled n ends) k) (HasCause (problem_of inst) limit rows)
+  one-end w seats locals ends n is b done a long k lt =
+      let at : end_of (filled n ends) k ≡ end_of ends k = get_or-append ends (drop n (replicate 16 None)) None k (omega arith) in
+      subst (λ (o : Option WorkEnd). IsSome o × IfSome o (HasCause (problem_of inst) limit rows)) (sym at) (front-causes w seats ends is b done.ended a k (omega arith))
 
-  -- each worker has ended for its cause, and none of them for want of memory
-  pub have-ended : (w : Wording) (seats : List Sitting) (locals : List Local) (ends : List (Option WorkEnd)) (n : ℕ) → w.limit ≡ limit → BeginsWithAll (problem_of inst) rows → AreDone inst w seats locals ends → All (λ (s : Sitting). AreOf s.view rows) seats → length ends ≡ n
-      → ((k : ℕ) → end_of (filled n ends) k ≡ Some OutOfMemory → ⊥) → HaveEnded (problem_of inst) limit n rows (filled n ends)
-  have-ended w seats locals ends n is b done a long short = record {
-    all = λ k lt. (one-end w seats ends n is b done.ended a long short k lt).0;
+  -- each worker has ended for its cause
+  pub have-ended : (w : Wording) (seats : List Sitting) (locals : List Local) (ends : List (Option WorkEnd)) (n : ℕ) → w.limit ≡ limit → BeginsWithAll (problem_of inst) rows → AreDone inst w seats locals ends → All (λ (s : Sitting). AreOf s.view rows) seats
+      → length ends ≡ n → HaveEnded (problem_of inst) limit n rows (filled n ends)
+  have-ended w seats locals ends n is b done a long = record {
+    all = λ k lt. (one-end w seats locals ends n is b done a long k lt).0;
     causes = λ k. dite (dec_le n k)
         (λ past. subst (λ (o : Option WorkEnd). IfSome o (HasCause (problem_of inst) limit rows)) (sym (past-ends n ends k long past)) tt)
-        (λ there. (one-end w seats ends n is b done.ended a long short k (omega arith)).1);
+        (λ there. (one-end w seats locals ends n is b done a long k (omega arith)).1);
     no_other = λ k past. past-ends n ends k long past;
   }
 
@@ -214,7 +236,6 @@ module _ (inst : Instance) (limit : ℕ) (rows : List Row) (sound : IsSound (pro
   stop (None ∷ rest) i c = absurd (true≢false (sym i))
   stop (Some Solved ∷ rest) i c = inl (c 0).enough
   stop (Some (Full g) ∷ rest) i c = inr (c 0)
-  stop (Some OutOfMemory ∷ rest) i c = absurd (c 0)
 
   pub may-stop : (workers : ℕ) (ends : List (Option WorkEnd)) → 1 ≤ workers → HaveEnded (problem_of inst) limit workers rows ends → MayStop (problem_of inst) limit (groups_in rows) (first_missed ends)
   may-stop workers ends some h = stop ends (h.all 0 some) h.causes

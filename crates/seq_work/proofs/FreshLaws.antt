@@ -1,6 +1,6 @@
 -- What a search takes, made step by step: workers that have done nothing; a scribe and an index with the group of all classes alone;
 -- and seats that have learnt where it is.
-use Rattle.std.proofs.Common.{◌≡◌, ℕ, suc, ◌+◌, ◌<◌, ◌≤◌, Bool, true, false, cond, List, [], ◌∷◌, ◌++◌, length, refl, sym, ap, ◌∙◌, subst, arith, true≢false, All, Some, None}
+use Rattle.std.proofs.Common.{◌≡◌, ℕ, suc, ◌+◌, ◌-◌, ◌<◌, ◌≤◌, Bool, true, false, cond, List, [], ◌∷◌, ◌++◌, length, refl, sym, ap, ◌∙◌, subst, arith, true≢false, All, Some, None}
 use Rattle.std.specs.List.{AllZip}
 use Rattle.seq_theory.specs.Problem.{all_classes, is_end}
 use Rattle.seq_theory.specs.Graph.{same_group, IsWanted, root, IsReal}
@@ -21,35 +21,38 @@ use Rattle.seq_work.specs.Works.{StandsAt}
 use Rattle.seq_work.specs.Ends.{KnowsRoot}
 use Rattle.seq_work.specs.Fans.{MayBegin}
 use Rattle.seq_work.specs.Prepares.{IsFresh, AreFreshFrom, IsTaught}
+use Rattle.seq_work.proofs.Rooms.{less-room}
 
 -- ---- workers ----
 
-pub fresh-more : (inst : Instance) (first : ℕ) (xs : List Local) (x : Local) → AreFreshFrom inst first xs → IsFresh inst (first + length xs) x → AreFreshFrom inst first (xs ++ x ∷ [])
-fresh-more inst first [] x a f = (subst (λ n. IsFresh inst n x) (omega arith) f, tt)
-fresh-more inst first (y ∷ ys) x a f = (a.0, fresh-more inst (suc first) ys x a.1 (subst (λ n. IsFresh inst n x) (omega arith) f))
+pub fresh-more : (inst : Instance) (limit first : ℕ) (xs : List Local) (x : Local) → AreFreshFrom inst limit first xs → IsFresh inst limit (first + length xs) x → AreFreshFrom inst limit first (xs ++ x ∷ [])
+fresh-more inst limit first [] x a f = (subst (λ n. IsFresh inst limit n x) (omega arith) f, tt)
+fresh-more inst limit first (y ∷ ys) x a f = (a.0, fresh-more inst limit (suc first) ys x a.1 (subst (λ n. IsFresh inst limit n x) (omega arith) f))
 
-may-begin : (inst : Instance) (w : Wording) (s : Sitting) (n : ℕ) (l : Local) → w.told ≡ told_of inst → w.limit ≤ 32768 → IsTaught w inst s → IsFresh inst n l → MayBegin inst w s l
-may-begin inst w s n l told small t f = record {
+may-begin : (inst : Instance) (w : Wording) (s : Sitting) (limit n : ℕ) (l : Local) → w.told ≡ told_of inst → w.limit ≡ limit → limit ≤ 32768 → IsTaught w inst s → IsFresh inst limit n l → MayBegin inst w s l
+may-begin inst w s limit n l told is small t f = record {
   ready = record {
     of = t.of;
     told = told;
-    limit = small;
+    limit = omega arith;
     alone = t.alone;
     graph = f.graph;
     standing = subst (λ rows. AllZip (StandsAt s.view) rows l.places.items) (sym f.rows) (subst (AllZip (StandsAt s.view) []) (sym f.places) tt);
+    room = less-room (w.limit - length l.graph.rows.items) limit l.graph (omega arith) f.room;
+    places_room = let p = f.places_room in omega arith;
   };
   empty = f.rows;
   root = t.root;
 }
 
-pub may-begin-all : (inst : Instance) (w : Wording) (seats : List Sitting) (first : ℕ) (locals : List Local) → w.told ≡ told_of inst → w.limit ≤ 32768 → length seats ≡ length locals → All (λ (s : Sitting). IsTaught w inst s) seats
-    → AreFreshFrom inst first locals → AllZip (MayBegin inst w) seats locals
-may-begin-all inst w [] first [] told small e a f = tt
-may-begin-all inst w [] first (l ∷ ls) told small e a f = absurd (omega arith)
-may-begin-all inst w (s ∷ ss) first [] told small e a f = absurd (omega arith)
-may-begin-all inst w (s ∷ ss) first (l ∷ ls) told small e a f = (
-  may-begin inst w s first l told small (a 0 s (omega arith)) f.0,
-  may-begin-all inst w ss (suc first) ls told small (omega arith) (λ k d lt. a (suc k) d (omega arith)) f.1,
+pub may-begin-all : (inst : Instance) (w : Wording) (seats : List Sitting) (limit first : ℕ) (locals : List Local) → w.told ≡ told_of inst → w.limit ≡ limit → limit ≤ 32768 → length seats ≡ length locals → All (λ (s : Sitting). IsTaught w inst s) seats
+    → AreFreshFrom inst limit first locals → AllZip (MayBegin inst w) seats locals
+may-begin-all inst w [] limit first [] told is small e a f = tt
+may-begin-all inst w [] limit first (l ∷ ls) told is small e a f = absurd (omega arith)
+may-begin-all inst w (s ∷ ss) limit first [] told is small e a f = absurd (omega arith)
+may-begin-all inst w (s ∷ ss) limit first (l ∷ ls) told is small e a f = (
+  may-begin inst w s limit first l told is small (a 0 s (omega arith)) f.0,
+  may-begin-all inst w ss limit (suc first) ls told is small (omega arith) (λ k d lt. a (suc k) d (omega arith)) f.1,
 )
 
 -- ---- the group of all classes ----

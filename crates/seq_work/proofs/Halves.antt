@@ -1,5 +1,5 @@
 -- Lists of seats in two halves: what holds of both holds of each, and of both again.
-use Rattle.std.proofs.Common.{◌≡◌, ◌≢◌, ℕ, zero, suc, ◌<◌, List, [], ◌∷◌, ◌++◌, length, get_or, set, Some, Option, arith, refl, ap, subst, length-append}
+use Rattle.std.proofs.Common.{◌≡◌, ℕ, zero, suc, ◌<◌, List, [], ◌∷◌, ◌++◌, length, get_or, set, Some, Option, arith, refl, ap, subst, length-append}
 use Rattle.std.proofs.lemmas.List.Elements.{All-append}
 use Rattle.std.specs.List.{AllZip}
 use Rattle.seq_inst.specs.declared.instance.Instance.{Instance}
@@ -7,10 +7,9 @@ use Rattle.seq_inst.specs.Instances.{problem_of}
 use Rattle.seq_words.specs.Seats.{IsOf, Wording, Sitting}
 use Rattle.seq_work.specs.declared.local.Local.{Local}
 use Rattle.seq_work.specs.declared.work.WorkEnd.{WorkEnd}
-use Rattle.seq_work.specs.declared.work.WorkEnd.TheVariants.{OutOfMemory}
 use Rattle.seq_work.specs.Works.{Ready}
 use Rattle.seq_work.specs.Ends.{KnowsRoot, Worked}
-use Rattle.seq_work.specs.Fans.{MayBegin, WorkedAt, AreReady, StayReady, AreDone}
+use Rattle.seq_work.specs.Fans.{MayBegin, WorkedAt, AreReady, AreDone}
 
 zip-front : {A B : Type 0} (R : A → B → Type 0) (xs xs' : List A) (ys ys' : List B) → length xs ≡ length ys → AllZip R (xs ++ xs') (ys ++ ys') → AllZip R xs ys
 zip-front R [] xs' [] ys' e a = tt
@@ -46,37 +45,29 @@ ready-back inst w seats a b locals la lb ends ea eb es el ee nl ne r = record {
   ready = zip-back (MayBegin inst w) a b la lb nl (subst (AllZip (MayBegin inst w) (a ++ b)) el (subst (λ (s : List Sitting). AllZip (MayBegin inst w) s locals) es r.ready));
 }
 
-ready-both : (inst : Instance) (w : Wording) (a b : List Sitting) (la lb : List Local) (ea eb : List (Option WorkEnd)) → StayReady inst w a la ea → StayReady inst w b lb eb → StayReady inst w (a ++ b) (la ++ lb) (ea ++ eb)
-ready-both inst w [] b [] lb [] eb f g = g
-ready-both inst w [] b [] lb (e ∷ ea) eb f g = absurd f
-ready-both inst w [] b (l ∷ la) lb ea eb f g = absurd f
-ready-both inst w (s ∷ a) b [] lb ea eb f g = absurd f
-ready-both inst w (s ∷ a) b (l ∷ la) lb [] eb f g = absurd f
-ready-both inst w (s ∷ a) b (l ∷ la) lb (e ∷ ea) eb f g = (f.0, ready-both inst w a b la lb ea eb f.1 g)
-
 pub done-both : (inst : Instance) (w : Wording) (a b : List Sitting) (la lb : List Local) (ea eb : List (Option WorkEnd)) → AreDone inst w a la ea → AreDone inst w b lb eb → AreDone inst w (a ++ b) (la ++ lb) (ea ++ eb)
 done-both inst w a b la lb ea eb f g = record {
   of = All-append (IsOf w) a b f.of g.of;
+  ready = zip-both (Ready inst w) a b la lb f.ready g.ready;
   ended = zip-both (WorkedAt inst w) a b ea eb f.ended g.ended;
-  ready = ready-both inst w a b la lb ea eb f.ready g.ready;
 }
 
 pub done-none : (inst : Instance) (w : Wording) (seats : List Sitting) (locals : List Local) (ends : List (Option WorkEnd)) → length seats ≡ 0 → length seats ≡ length locals → length seats ≡ length ends → AreDone inst w seats locals ends
-done-none inst w [] [] [] e h f = record { of = λ k d lt. absurd (omega arith); ended = tt; ready = tt }
-done-none inst w [] [] (y ∷ ys) e h f = absurd (omega arith)
-done-none inst w [] (l ∷ ls) ends e h f = absurd (omega arith)
-done-none inst w (x ∷ xs) locals ends e h f = absurd (omega arith)
+done-none inst w [] [] [] e f g = record { of = λ k d h. absurd (omega arith); ready = tt; ended = tt }
+done-none inst w [] (l ∷ ls) ends e f g = absurd (omega arith)
+done-none inst w [] [] (y ∷ ys) e f g = absurd (omega arith)
+done-none inst w (x ∷ xs) locals ends e f g = absurd (omega arith)
 
 one-of : (inst : Instance) (w : Wording) (y : Sitting) → IsOf w y → (k : ℕ) (d : Sitting) → k < 1 → IsOf w (get_or (y ∷ []) k d)
 one-of inst w y f zero d h = f
 one-of inst w y f (suc k) d h = absurd (omega arith)
 
-pub done-one : (inst : Instance) (w : Wording) (seats : List Sitting) (locals : List Local) (ends : List (Option WorkEnd)) (y : Sitting) (m : Local) (end : WorkEnd) → length seats ≡ 1 → length seats ≡ length locals → length seats ≡ length ends
-    → IsOf w y → KnowsRoot (problem_of inst) y.view → Worked inst w y end → (end ≢ OutOfMemory → Ready inst w y m) → AreDone inst w (set seats 0 y) (set locals 0 m) (set ends 0 (Some end))
-done-one inst w [] locals ends y m end e h f o r z t = absurd (omega arith)
-done-one inst w (x ∷ []) [] ends y m end e h f o r z t = absurd (omega arith)
-done-one inst w (x ∷ []) (l ∷ []) [] y m end e h f o r z t = absurd (omega arith)
-done-one inst w (x ∷ []) (l ∷ []) (d ∷ []) y m end e h f o r z t = record { of = one-of inst w y o; ended = (record { root = r; cause = z; some = refl }, tt); ready = (λ n. t (λ is. n (ap (λ (a : WorkEnd). Some a) is)), tt) }
-done-one inst w (x ∷ []) (l ∷ []) (d ∷ d' ∷ ds) y m end e h f o r z t = absurd (omega arith)
-done-one inst w (x ∷ []) (l ∷ l' ∷ ls) ends y m end e h f o r z t = absurd (omega arith)
-done-one inst w (x ∷ x' ∷ xs) locals ends y m end e h f o r z t = absurd (omega arith)
+pub done-one : (inst : Instance) (w : Wording) (seats : List Sitting) (locals : List Local) (ends : List (Option WorkEnd)) (y : Sitting) (l : Local) (end : WorkEnd) → length seats ≡ 1 → length seats ≡ length locals → length seats ≡ length ends
+    → IsOf w y → KnowsRoot (problem_of inst) y.view → Ready inst w y l → Worked inst w y end → AreDone inst w (set seats 0 y) (set locals 0 l) (set ends 0 (Some end))
+done-one inst w [] locals ends y l end e f g o k r z = absurd (omega arith)
+done-one inst w (x ∷ x' ∷ xs) locals ends y l end e f g o k r z = absurd (omega arith)
+done-one inst w (x ∷ []) [] ends y l end e f g o k r z = absurd (omega arith)
+done-one inst w (x ∷ []) (m ∷ m' ∷ ms) ends y l end e f g o k r z = absurd (omega arith)
+done-one inst w (x ∷ []) (m ∷ []) [] y l end e f g o k r z = absurd (omega arith)
+done-one inst w (x ∷ []) (m ∷ []) (d ∷ d' ∷ ds) y l end e f g o k r z = absurd (omega arith)
+done-one inst w (x ∷ []) (m ∷ []) (d ∷ []) y l end e f g o k r z = record { of = one-of inst w y o; ready = (r, tt); ended = (record { root = k; cause = z; some = refl }, tt) }

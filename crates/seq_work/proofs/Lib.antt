@@ -5,9 +5,8 @@ pub mod BackingLaws
 pub mod TurnLaws
 pub mod RunLaws
 pub mod Roots
+pub mod Rooms
 pub mod Halves
 pub mod FreshLaws
 pub mod EndLaws
 pub mod ExampleLaws
-pub mod GraphLaws
-pub mod LargestLaws

@@ -7,7 +7,7 @@ use Rattle.seq_words.specs.declared.view.View.{View}
 use Rattle.seq_words.specs.Knowledge.{IsKnown, group_at, low_seen, up_seen}
 use Rattle.seq_words.specs.Seats.{Wording, Sitting}
 use Rattle.seq_work.specs.declared.work.WorkEnd.{WorkEnd}
-use Rattle.seq_work.specs.declared.work.WorkEnd.TheVariants.{Solved, Full, OutOfMemory}
+use Rattle.seq_work.specs.declared.work.WorkEnd.TheVariants.{Solved, Full}
 use Rattle.seq_work.specs.Turns.{IsFullFor}
 
 -- place 0 is known with the group of all classes, unless all have one goal
@@ -22,9 +22,7 @@ pub record IsClosedFor (p : Problem) (v : View) : Type 0 where
   pub group : group_at place v ≡ all_classes p
   pub closed : up_seen place v ≤ low_seen place v
 
--- the seat knows the group of all classes closed, or all have one goal; or all places are drawn, and a real group has none; of a
--- worker that found no more memory nothing is said
+-- the seat knows the group of all classes closed, or all have one goal; or all places are drawn, and a real group has none
 abbrev pub Worked : Instance → Wording → Sitting → WorkEnd → Type 0
 Worked inst words seat Solved = (is_end (problem_of inst) (all_classes (problem_of inst)) ≡ true) ⊎ IsClosedFor (problem_of inst) seat.view
 Worked inst words seat (Full missed) = IsFullFor inst words seat missed
-Worked inst words seat OutOfMemory = Unit {0}

@@ -1,12 +1,11 @@
 -- Seats with what their workers keep, before and after they work.
-use Rattle.std.specs.Prelude.{◌≡◌, ◌≢◌, List, [], ◌∷◌, length, All, Option, Some, IfSome, IsSome}
+use Rattle.std.specs.Prelude.{◌≡◌, List, [], length, All, Option, IfSome, IsSome}
 use Rattle.std.specs.List.{AllZip}
 use Rattle.seq_inst.specs.declared.instance.Instance.{Instance}
 use Rattle.seq_inst.specs.Instances.{problem_of}
 use Rattle.seq_words.specs.Seats.{Wording, Sitting, IsOf}
 use Rattle.seq_work.specs.declared.local.Local.{Local}
 use Rattle.seq_work.specs.declared.work.WorkEnd.{WorkEnd}
-use Rattle.seq_work.specs.declared.work.WorkEnd.TheVariants.{OutOfMemory}
 use Rattle.seq_work.specs.Works.{Ready}
 use Rattle.seq_work.specs.Ends.{KnowsRoot, Worked}
 
@@ -28,17 +27,8 @@ pub record AreReady (inst : Instance) (words : Wording) (seats : List Sitting) (
   pub as_ends : length seats ≡ length ends
   pub ready : AllZip (MayBegin inst words) seats locals
 
--- each worker, unless it found no more memory, is ready at its end too: its graph is the instance's, and its rows stand
-abbrev pub StayReady : Instance → Wording → List Sitting → List Local → List (Option WorkEnd) → Type 0
-StayReady inst words [] [] [] = Unit {0}
-StayReady inst words [] [] (e ∷ es) = ⊥
-StayReady inst words [] (l ∷ ls) ends = ⊥
-StayReady inst words (s ∷ ss) [] ends = ⊥
-StayReady inst words (s ∷ ss) (l ∷ ls) [] = ⊥
-StayReady inst words (s ∷ ss) (l ∷ ls) (e ∷ es) = (e ≢ Some OutOfMemory → Ready inst words s l) × StayReady inst words ss ls es
-
--- seats whose workers have ended, and what these keep
+-- seats whose workers have ended, with what these know
 pub record AreDone (inst : Instance) (words : Wording) (seats : List Sitting) (locals : List Local) (ends : List (Option WorkEnd)) : Type 0 where
   pub of : All (IsOf words) seats
+  pub ready : AllZip (Ready inst words) seats locals
   pub ended : AllZip (WorkedAt inst words) seats ends
-  pub ready : StayReady inst words seats locals ends

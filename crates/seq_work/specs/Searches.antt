@@ -8,7 +8,7 @@ use Rattle.seq_core.specs.Settled.{groups_in}
 use Rattle.seq_core.specs.Entered.{AreEnough, IsFull}
 use Rattle.seq_graph.specs.Known.{group_at, IsClosedAt}
 use Rattle.seq_work.specs.declared.work.WorkEnd.{WorkEnd}
-use Rattle.seq_work.specs.declared.work.WorkEnd.TheVariants.{Solved, Full, OutOfMemory}
+use Rattle.seq_work.specs.declared.work.WorkEnd.TheVariants.{Solved, Full}
 
 -- the first row is that of the group of all classes, unless all classes have one goal
 pub record BeginsWithAll (p : Problem) (rows : List Row) : Type 0 where
@@ -20,12 +20,11 @@ pub record IsSolved (p : Problem) (rows : List Row) : Type 0 where
   pub closed : is_end p (all_classes p) ≡ false → IsClosedAt rows 0
   pub enough : AreEnough p (groups_in rows)
 
--- a worker that found the group of all classes closed has solved the problem, whatever the others did; one for whose group there
--- was no place left behind as many rows as the limit allows, none of which is that group's; none ran out of memory
+-- a worker that found the group of all classes closed has solved the problem, whatever the others did; where one found no place for a
+-- group, there are as many rows as the limit allows, none of which is that group's
 abbrev pub HasCause : Problem → ℕ → List Row → WorkEnd → Type 0
 HasCause p limit rows Solved = IsSolved p rows
 HasCause p limit rows (Full missed) = IsFull p limit (groups_in rows) (Some missed)
-HasCause p limit rows OutOfMemory = ⊥
 
 abbrev pub end_of : List (Option WorkEnd) → ℕ → Option WorkEnd
 end_of ends worker = slice_index_or ends worker None
@@ -41,7 +40,6 @@ abbrev pub missed_or : Option WorkEnd → Option Group → Option Group
 missed_or None later = later
 missed_or (Some Solved) later = later
 missed_or (Some (Full missed)) later = Some missed
-missed_or (Some OutOfMemory) later = later
 
 abbrev pub first_missed : List (Option WorkEnd) → Option Group
 first_missed [] = None

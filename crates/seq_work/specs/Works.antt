@@ -1,11 +1,12 @@
 -- What a worker knows, beside what its seat knows of the words.
-use Rattle.std.specs.Prelude.{◌≡◌, ℕ, ◌≤◌}
+use Rattle.std.specs.Prelude.{◌≡◌, ℕ, ◌≤◌, ◌-◌, length, vec_capacity}
 use Rattle.std.specs.List.{AllZip}
 use Rattle.seq_inst.specs.declared.instance.Instance.{Instance}
 use Rattle.seq_inst.specs.declared.outcome.Row.{Row}
 use Rattle.seq_inst.specs.Members.{members}
 use Rattle.seq_inst.specs.Instances.{problem_of}
 use Rattle.seq_graph.specs.Known.{IsKnown as IsGraph}
+use Rattle.seq_graph.specs.Rooms.{HasRoom}
 use Rattle.seq_words.specs.declared.view.View.{View}
 use Rattle.seq_words.specs.Knowledge.{told_of, IsKnown, AreAlone, group_at, low_seen, up_seen}
 use Rattle.seq_words.specs.Seats.{Wording, Sitting, IsOf}
@@ -19,7 +20,7 @@ pub record StandsAt (v : View) (r : Row) (place : ℕ) : Type 0 where
   pub up : up_seen place v ≤ r.up
 
 -- the seat is one of these words, which are the instance's, and knows no two places with the same group; the graph is a graph of
--- the instance; and each of its rows stands at its place
+-- the instance; each of its rows stands at its place; and there is room for as many rows as there are places
 pub record Ready (inst : Instance) (words : Wording) (seat : Sitting) (l : Local) : Type 0 where
   pub of : IsOf words seat
   pub told : words.told ≡ told_of inst
@@ -27,3 +28,5 @@ pub record Ready (inst : Instance) (words : Wording) (seat : Sitting) (l : Local
   pub alone : AreAlone seat.view
   pub graph : IsGraph (problem_of inst) l.graph
   pub standing : AllZip (StandsAt seat.view) l.graph.rows.items l.places.items
+  pub room : HasRoom (words.limit - length l.graph.rows.items) l.graph
+  pub places_room : words.limit ≤ vec_capacity l.places

@@ -9,14 +9,12 @@ use crate::work::{WorkEnd, work_at};
 use seq_table::Naming;
 use seq_words::Seat;
 use sig_edge::Gate;
-use std::alloc::Global;
 use std::sync::Wait;
 use std::thread::{Threads, join_mut};
 
 /// Each seat's worker works, and how it ended stands at its place.
 pub fn fan<N: Naming + Send + Sync, R: Threads + Wait + Sync, G: Gate + Sync>(
     rt: &R,
-    alloc: Global,
     shared: &Shared<N>,
     gate: &G,
     seats: &mut [Seat],
@@ -30,7 +28,7 @@ pub fn fan<N: Naming + Send + Sync, R: Threads + Wait + Sync, G: Gate + Sync>(
         return;
     }
     if seats.len() == 1 {
-        ends[0] = Some(work_at(rt, alloc, shared, &mut seats[0], &mut locals[0], gate));
+        ends[0] = Some(work_at(rt, shared, &mut seats[0], &mut locals[0], gate));
         return;
     }
     let half = seats.len() / 2;
@@ -42,10 +40,10 @@ pub fn fan<N: Naming + Send + Sync, R: Threads + Wait + Sync, G: Gate + Sync>(
         &mut ||
             requires { IsSync R.row × IsSync N.row × IsSync G.row × AreReady shared.now.inst N.words seats_a.now locals_a.now ends_a.now }
             ensures { AreDone shared.entry.now.inst N.words seats_a.exit.now locals_a.exit.now ends_a.exit.now }
-        { fan(rt, alloc, shared, gate, seats_a, locals_a, ends_a) },
+        { fan(rt, shared, gate, seats_a, locals_a, ends_a) },
         &mut ||
             requires { IsSync R.row × IsSync N.row × IsSync G.row × AreReady shared.now.inst N.words seats_b.now locals_b.now ends_b.now }
             ensures { AreDone shared.entry.now.inst N.words seats_b.exit.now locals_b.exit.now ends_b.exit.now }
-        { fan(rt, alloc, shared, gate, seats_b, locals_b, ends_b) },
+        { fan(rt, shared, gate, seats_b, locals_b, ends_b) },
     );
 }

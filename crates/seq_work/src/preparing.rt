@@ -26,15 +26,15 @@ fn copy_of(alloc: Global, inst: &Instance) -> Result<Instance, AllocError>
     Ok(Instance::new(weights, costs, passes))
 }
 
-/// What so many workers keep at first: each its number, and nothing that it knows.
-fn fresh(alloc: Global, inst: &Instance, workers: u32) -> Result<Vec<Local>, AllocError>
-    ensures fresh { IfOk result (λ v. AreFreshFrom inst.now 0 v.items) }
+/// What so many workers keep at first: each its number, nothing that it knows, and room for so many groups.
+fn fresh(alloc: Global, inst: &Instance, limit: u32, workers: u32) -> Result<Vec<Local>, AllocError>
+    ensures fresh { IfOk result (λ v. AreFreshFrom inst.now limit 0 v.items) }
     ensures count { IfOk result (λ v. length v.items ≡ workers) }
 {
     let mut locals = Vec::new(alloc);
     for number in 0..workers {
-        let graph = Graph::new(alloc, inst)?;
-        let places = Vec::new(alloc);
+        let graph = Graph::with_room(alloc, inst, limit)?;
+        let places = Vec::with_capacity(alloc, limit as usize)?;
         locals.push(Local {
             number,
             graph,
@@ -94,7 +94,7 @@ pub fn prepare(
     let into = Vec::with_capacity(alloc, limit as usize)?;
     let mut index = Places::new(alloc, limit)?;
     let inst = copy_of(alloc, inst)?;
-    let locals = fresh(alloc, &inst, workers)?;
+    let locals = fresh(alloc, &inst, limit, workers)?;
     let made = make_words(alloc, &inst, limit, workers)?;
     let Made {
         words,

@@ -117,7 +117,7 @@ fn a_group_has_one_place(rt: HostRuntime) -> Result<(), Fail> {
 fn one_worker_meets_the_limit(rt: HostRuntime) -> Result<(), Fail> {
     let inst = star(rt.alloc())?;
     let prepared = prepare(rt.alloc(), &inst, 2, 1)?;
-    let ended = search(&rt, rt.alloc(), prepared, &FreeGate)?;
+    let ended = search(&rt, prepared, &FreeGate);
     let rows = ended.closed.rows();
     assert_eq!(rt; rows.len(), 2);
     assert_eq!(rt; (rows[0].low, rows[0].up), (13, 14));
@@ -163,7 +163,7 @@ fn two_at_once(rt: HostRuntime) -> Result<(), Fail> {
     };
     let inst = star(rt.alloc())?;
     let prepared = prepare(rt.alloc(), &inst, 5, 2)?;
-    let ended = search(&rt, rt.alloc(), prepared, &gate)?;
+    let ended = search(&rt, prepared, &gate);
     assert!(rt; gate.begun[0].load(Ordering::SeqCst) == 1);
     assert!(rt; gate.begun[1].load(Ordering::SeqCst) == 1);
     assert!(rt; gate.failed.load(Ordering::SeqCst) == 0);
@@ -212,7 +212,8 @@ fn what_a_worker_finds_stands_in_the_rows(rt: HostRuntime) -> Result<(), Fail> {
         closed,
         missed,
         ends: _,
-    } = search(&rt, rt.alloc(), prepared, &gate)?;
+        graph: _,
+    } = search(&rt, prepared, &gate);
     assert!(rt; gate.failed.load(Ordering::SeqCst) == 0);
     assert!(rt; missed == Some(Group([15, 0, 0, 0, 0, 0, 0, 0])));
     let rows = closed.into_rows();

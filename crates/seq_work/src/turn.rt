@@ -1,6 +1,6 @@
 //! One turn of a worker: it goes down step by step, as the search on one thread does, until it enters a group or
 //! closes one. The groups that it came through are backed up from below upwards.
-ghost use Rattle.std.specs.Prelude.{◌≡◌, ◌≢◌, ◌<◌, ◌≤◌, length, IfOk};
+ghost use Rattle.std.specs.Prelude.{◌≡◌, ◌≢◌, ◌<◌, ◌≤◌, length};
 ghost use Rattle.seq_graph.specs.Known.{row_at};
 ghost use Rattle.seq_words.specs.Knowledge.{Covers};
 ghost use Rattle.seq_words.specs.Seats.{IsOf};
@@ -15,7 +15,6 @@ use seq_graph::{Step, next_step, turns_move};
 use seq_inst::{Answer, Group};
 use seq_table::{Entered, Naming};
 use seq_words::Seat;
-use std::alloc::{AllocError, Global};
 use std::sync::Wait;
 
 /// Of the two parts by a test a worker of even number looks at the passing one first, and one of odd number at
@@ -33,54 +32,45 @@ fn first_of(number: u32) -> Answer
 /// One turn from a group on. The answer is the group that found no place, if there is one.
 pub(crate) fn turn<N: Naming + Send + Sync, R: Wait>(
     rt: &R,
-    alloc: Global,
     shared: &Shared<N>,
     seat: &mut Seat,
     local: &mut Local,
     node: usize,
-) -> Result<Option<Group>, AllocError>
+) -> Option<Group>
     requires ready { Ready shared.now.inst N.words seat.old local.old }
     requires node { node < length local.old.graph.rows.items }
     requires apart { (row_at local.old.graph.rows.items node).low ≢ (row_at local.old.graph.rows.items node).up }
     ensures of { IsOf N.words seat.new }
     ensures covers { Covers seat.new.view seat.old.view }
-    ensures ready { IfOk result (λ _. Ready shared.now.inst N.words seat.new local.new) }
-    ensures worked { IfOk result (HasWorked shared.now.inst N.words seat.new local.old local.new) }
+    ensures ready { Ready shared.now.inst N.words seat.new local.new }
+    ensures worked { HasWorked shared.now.inst N.words seat.new local.old local.new result }
 {
     turns_move();
     let first = first_of(local.number);
-    match next_step(&shared.inst, &mut local.graph, node, first)? {
+    match next_step(&shared.inst, &mut local.graph, node, first) {
         Step::Enter { group } => {
             let entered = shared.tables.enter_at(rt, &shared.words, seat, &group);
             match entered {
-                Entered::Full { drawn: _ } => return Ok(Some(group)),
+                Entered::Full { drawn: _ } => return Some(group),
                 Entered::At { place } => {
                     let last = local.graph.rows.len();
-                    list(
-                        alloc,
-                        &shared.words,
-                        &shared.inst,
-                        seat,
-                        local,
-                        &group,
-                        place,
-                    )?;
-                    back_up(&shared.words, &shared.inst, seat, local, last)?;
+                    list(&shared.words, &shared.inst, seat, local, &group, place);
+                    back_up(&shared.words, &shared.inst, seat, local, last);
                 }
             }
-            back_up(&shared.words, &shared.inst, seat, local, node)?;
-            Ok(None)
+            back_up(&shared.words, &shared.inst, seat, local, node);
+            None
         }
         Step::Down { place: next } => {
-            if let Some(group) = turn(rt, alloc, shared, seat, local, next)? {
-                return Ok(Some(group));
+            if let Some(group) = turn(rt, shared, seat, local, next) {
+                return Some(group);
             }
-            back_up(&shared.words, &shared.inst, seat, local, node)?;
-            Ok(None)
+            back_up(&shared.words, &shared.inst, seat, local, node);
+            None
         }
         Step::Close => {
-            back_up(&shared.words, &shared.inst, seat, local, node)?;
-            Ok(None)
+            back_up(&shared.words, &shared.inst, seat, local, node);
+            None
         }
     }
 }

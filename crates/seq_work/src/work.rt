@@ -1,14 +1,13 @@
 //! A worker's whole run: the group of all classes gets a row, and turns follow until it is closed, or a group finds
 //! no place. A turn enters a group or closes one, so there are at most twice as many turns as places, whatever
 //! the others do.
-ghost use Rattle.std.specs.Prelude.{◌≡◌, ◌≢◌, ◌≤◌, false, [], length, IfOk};
+ghost use Rattle.std.specs.Prelude.{◌≡◌, ◌≤◌, false, [], length};
 ghost use Rattle.seq_theory.specs.Problem.{is_end, all_classes};
 ghost use Rattle.seq_inst.specs.Members.{members};
 ghost use Rattle.seq_inst.specs.Instances.{problem_of};
 ghost use Rattle.seq_graph.specs.Known.{group_at};
 ghost use Rattle.seq_words.specs.Knowledge.{Covers};
 ghost use Rattle.seq_words.specs.Seats.{IsOf};
-ghost use Rattle.seq_work.specs.declared.work.WorkEnd.TheVariants.{OutOfMemory};
 ghost use Rattle.seq_work.specs.Works.{Ready};
 ghost use Rattle.seq_work.specs.Ends.{KnowsRoot, Worked};
 ghost use Rattle.seq_work.specs.Fans.{MayBegin};
@@ -22,7 +21,6 @@ use seq_inst::{Group, Instance, is_leaf, root};
 use seq_table::Naming;
 use seq_words::{Seat, Words};
 use sig_edge::Gate;
-use std::alloc::{AllocError, Global};
 use std::sync::Wait;
 
 /// How a worker ended.
@@ -32,19 +30,10 @@ pub enum WorkEnd {
     Solved,
     /// All places are drawn, and this group has none.
     Full { missed: Group },
-    /// Its own graph found no more memory.
-    OutOfMemory,
 }
 
 /// Gives the group of all classes, which has place 0, the first row.
-fn begin(
-    alloc: Global,
-    words: &Words,
-    inst: &Instance,
-    seat: &mut Seat,
-    local: &mut Local,
-    all: &Group,
-) -> Result<(), AllocError>
+fn begin(words: &Words, inst: &Instance, seat: &mut Seat, local: &mut Local, all: &Group)
     requires ready { Ready inst.now words.now seat.old local.old }
     requires empty { local.old.graph.rows.items ≡ [] }
     requires root { KnowsRoot (problem_of inst.now) seat.old.view }
@@ -52,73 +41,45 @@ fn begin(
     requires more { is_end (problem_of inst.now) (all_classes (problem_of inst.now)) ≡ false }
     ensures of { IsOf words.now seat.new }
     ensures covers { Covers seat.new.view seat.old.view }
-    ensures ready { IfOk result (λ _. Ready inst.now words.now seat.new local.new) }
-    ensures some { IfOk result (λ _. 1 ≤ length local.new.graph.rows.items) }
-    ensures first { IfOk result (λ _. members (group_at local.new.graph.rows.items 0) ≡ all_classes (problem_of inst.now)) }
+    ensures ready { Ready inst.now words.now seat.new local.new }
+    ensures some { 1 ≤ length local.new.graph.rows.items }
+    ensures first { members (group_at local.new.graph.rows.items 0) ≡ all_classes (problem_of inst.now) }
 {
-    list(alloc, words, inst, seat, local, all, 0)?;
-    back_up(words, inst, seat, local, 0)?;
-    Ok(())
+    list(words, inst, seat, local, all, 0);
+    back_up(words, inst, seat, local, 0);
 }
 
 /// Turns follow until the group of all classes is closed, or a group finds no place.
 fn turns<N: Naming + Send + Sync, R: Wait, G: Gate + Sync>(
     rt: &R,
-    alloc: Global,
     shared: &Shared<N>,
     seat: &mut Seat,
     local: &mut Local,
     gate: &G,
-) -> Result<WorkEnd, AllocError>
+) -> WorkEnd
     requires ready { Ready shared.now.inst N.words seat.old local.old }
     requires some { 1 ≤ length local.old.graph.rows.items }
     requires first { members (group_at local.old.graph.rows.items 0) ≡ all_classes (problem_of shared.now.inst) }
     ensures of { IsOf N.words seat.new }
     ensures covers { Covers seat.new.view seat.old.view }
-    ensures worked { IfOk result (Worked shared.now.inst N.words seat.new) }
-    ensures ready { IfOk result (λ _. Ready shared.now.inst N.words seat.new local.new) }
+    ensures ready { Ready shared.now.inst N.words seat.new local.new }
+    ensures worked { Worked shared.now.inst N.words seat.new result }
 {
     let mut count = 0u64;
     'turns: while local.graph.rows[0].low != local.graph.rows[0].up {
         gate.turn(local.number, count);
-        if let Some(missed) = turn(rt, alloc, shared, seat, local, 0)? {
-            return Ok(WorkEnd::Full { missed });
+        if let Some(missed) = turn(rt, shared, seat, local, 0) {
+            return WorkEnd::Full { missed };
         }
         count += 1;
     }
-    Ok(WorkEnd::Solved)
+    WorkEnd::Solved
 }
 
-/// The whole run, while there is memory.
-fn run<N: Naming + Send + Sync, R: Wait, G: Gate + Sync>(
-    rt: &R,
-    alloc: Global,
-    shared: &Shared<N>,
-    seat: &mut Seat,
-    local: &mut Local,
-    gate: &G,
-) -> Result<WorkEnd, AllocError>
-    requires ready { Ready shared.now.inst N.words seat.old local.old }
-    requires empty { local.old.graph.rows.items ≡ [] }
-    requires root { KnowsRoot (problem_of shared.now.inst) seat.old.view }
-    ensures of { IsOf N.words seat.new }
-    ensures covers { Covers seat.new.view seat.old.view }
-    ensures worked { IfOk result (Worked shared.now.inst N.words seat.new) }
-    ensures ready { IfOk result (λ _. Ready shared.now.inst N.words seat.new local.new) }
-{
-    let all = root(&shared.inst);
-    if is_leaf(&shared.inst, &all) {
-        return Ok(WorkEnd::Solved);
-    }
-    begin(alloc, &shared.words, &shared.inst, seat, local, &all)?;
-    turns(rt, alloc, shared, seat, local, gate)
-}
-
-/// A worker works until it knows the group of all classes closed, or a group finds no place. It may also end
-/// for want of memory.
+/// A worker works until it knows the group of all classes closed, or a group finds no place. It takes no memory, and
+/// returns if the lock and the gate do, after twice as many turns as there are places, or fewer.
 pub fn work_at<N: Naming + Send + Sync, R: Wait, G: Gate + Sync>(
     rt: &R,
-    alloc: Global,
     shared: &Shared<N>,
     seat: &mut Seat,
     local: &mut Local,
@@ -128,11 +89,13 @@ pub fn work_at<N: Naming + Send + Sync, R: Wait, G: Gate + Sync>(
     ensures of { IsOf N.words seat.new }
     ensures covers { Covers seat.new.view seat.old.view }
     ensures root { KnowsRoot (problem_of shared.now.inst) seat.new.view }
+    ensures ready { Ready shared.now.inst N.words seat.new local.new }
     ensures worked { Worked shared.now.inst N.words seat.new result }
-    ensures ready { result ≢ OutOfMemory → Ready shared.now.inst N.words seat.new local.new }
 {
-    match run(rt, alloc, shared, seat, local, gate) {
-        Ok(end) => end,
-        Err(_) => WorkEnd::OutOfMemory,
+    let all = root(&shared.inst);
+    if is_leaf(&shared.inst, &all) {
+        return WorkEnd::Solved;
     }
+    begin(&shared.words, &shared.inst, seat, local, &all);
+    turns(rt, shared, seat, local, gate)
 }

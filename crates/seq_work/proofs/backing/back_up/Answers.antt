@@ -1,7 +1,8 @@
-use Rattle.std.proofs.Common.{◌≡◌, ◌∙◌, set, refl, sym, ap, subst, arith}
+use Rattle.std.proofs.Common.{Vec, Global, ◌≡◌, ◌∙◌, set, refl, sym, ap, subst, arith}
 use Rattle.std.specs.Prelude.{slice_index}
 use Rattle.std.proofs.lemmas.List.{get_or_read}
 use Rattle.seq_theory.specs.Tree.{IsLeast}
+use Rattle.seq_inst.specs.declared.outcome.Row.{Row}
 use Rattle.seq_inst.specs.Members.{members}
 use Rattle.seq_inst.specs.Instances.{problem_of}
 use Rattle.seq_graph.specs.Known.{heard, row_at, group_at as row_group}
@@ -28,8 +29,8 @@ raise-low-requires-clause-may c =
     let long = zip-length (StandsAt c.args.seat.now.view) l.graph.rows.items l.places.items c.requires.ready.standing in
     let node = c.requires.node in
     let at : c.index-place.result.now ≡ slice_index l.places.items c.args.node = get_or_read l.places.items c.args.node c.index-place.result.now (omega arith) c.index-place.ensures 0 in
-    let is = c.in_ok-bounds.ensures.low in
-    may-raise c.args.inst.now c.args.words.now c.args.seat.now l c.requires.ready c.knowing_more_allows.ensures c.args.node c.index-place.result.now c.in_ok-bounds.bounds.low c.requires.node at (omega arith)
+    let is = c.backed_up-bounds.ensures.low in
+    may-raise c.args.inst.now c.args.words.now c.args.seat.now l c.requires.ready c.knowing_more_allows.ensures c.args.node c.index-place.result.now c.backed_up-bounds.result.low c.requires.node at (omega arith)
 
 pub lower_cap-up-requires-clause-may : goal.lower_cap-up-requires-clause-may
 lower_cap-up-requires-clause-may c =
@@ -41,7 +42,7 @@ lower_cap-up-requires-clause-may c =
     let e = c.raise-low.ensures in
     let alone = subst (λ (s : Sitting). AreAlone s.view) (sym e.learns) (alone-low c.args.seat.now.view place c.raise-low.result c.requires.ready.alone) in
     let ready = seat-stepped c.args.inst.now c.args.words.now c.args.seat.now l c.requires.ready c.raise-low.new.seat e.of e.covers alone in
-    may-cap c.args.inst.now c.args.words.now c.raise-low.new.seat l ready c.knowing_more_allows.ensures c.args.node place c.in_ok-bounds.bounds.up c.requires.node at c.in_ok-bounds.ensures.allowed.up_allowed
+    may-cap c.args.inst.now c.args.words.now c.raise-low.new.seat l ready c.knowing_more_allows.ensures c.args.node place c.backed_up-bounds.result.up c.requires.node at c.backed_up-bounds.ensures.allowed.up_allowed
 
 pub hear-requires-clause-right : goal.hear-requires-clause-right
 hear-requires-clause-right c = λ n is.
@@ -57,7 +58,7 @@ hear-requires-clause-right c = λ n is.
     let alone = subst (λ (s : Sitting). AreAlone s.view) (sym e.learns) (alone-low c.args.seat.now.view place c.raise-low.result c.requires.ready.alone) in
     let ready = seat-stepped inst words c.args.seat.now l c.requires.ready c.raise-low.new.seat e.of e.covers alone in
     let g = members (row_group rows c.args.node) in
-    let least = subst (λ xs. IsLeast (problem_of inst) (members (row_group xs c.args.node)) n) c.in_ok-bounds.ensures.rows is in
+    let least = subst (λ xs. IsLeast (problem_of inst) (members (row_group xs c.args.node)) n) (ap (λ (v : Vec Row Global). v.items) c.backed_up-bounds.ensures.rows) is in
     let first = subst (StandsAt c.args.seat.now.view (row_at rows c.args.node)) (sym at) (stands inst words c.args.seat.now l c.requires.ready c.args.node c.requires.node) in
     let then = subst (StandsAt c.raise-low.new.seat.view (row_at rows c.args.node)) (sym at) (stands inst words c.raise-low.new.seat l ready c.args.node c.requires.node) in (
       low-true inst c.args.seat.now.view place c.raise-low.result g (told-is inst words c.args.seat.now l c.requires.ready) first.group e.right n least,
@@ -92,5 +93,5 @@ returns-clause-ready c =
     let grown = (f.covers place).low in
     let same_low = ap (λ q. low_seen q seat2.view) at in
     let same_up = ap (λ q. up_seen q seat2.view) at in
-    graph-heard inst words seat2 l ready2 m c.args.node low up c.hear.ensures.known c.requires.node
-    (c.hear.ensures.rows ∙ ap (λ xs. set xs c.args.node (heard low up (row_at xs c.args.node))) c.in_ok-bounds.ensures.rows) refl (omega arith) (omega arith)
+    graph-heard inst words seat2 l ready2 m c.args.node low up c.hear.ensures.known (λ more held. c.hear.ensures.keeps more (c.backed_up-bounds.ensures.keeps more held)) c.requires.node
+    (c.hear.ensures.rows ∙ ap (λ xs. set xs c.args.node (heard low up (row_at xs c.args.node))) (ap (λ (v : Vec Row Global). v.items) c.backed_up-bounds.ensures.rows)) refl refl (omega arith) (omega arith)

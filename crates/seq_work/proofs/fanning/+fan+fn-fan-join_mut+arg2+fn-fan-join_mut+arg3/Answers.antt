@@ -4,7 +4,7 @@ use Rattle.seq_work.proofs.Halves.{ready-front, ready-back, done-both, done-one}
 use Rattle.seq_work.proofs.fanning.+fan+fn-fan-join_mut+arg2+fn-fan-join_mut+arg3.Goals as goal
 
 pub returns-then-seats-eq1 : goal.returns-then-seats-eq1
-returns-then-seats-eq1 g t c = done-one c.args.shared.now.inst _ _ _ _ _ _ _ c.if-seats-eq1.true c.requires.as_locals c.requires.as_ends c.work_at.ensures.of c.work_at.ensures.root c.work_at.ensures.worked c.work_at.ensures.ready
+returns-then-seats-eq1 g t c = done-one c.args.shared.now.inst _ _ _ _ _ _ _ c.if-seats-eq1.true c.requires.as_locals c.requires.as_ends c.work_at.ensures.of c.work_at.ensures.root c.work_at.ensures.ready c.work_at.ensures.worked
 
 pub join_mut-requires-after_bounds : goal.join_mut-requires-after_bounds
 join_mut-requires-after_bounds g t c =

@@ -33,20 +33,20 @@ list-requires-clause-new c = subst (λ (l : List Row). is_entered (groups_of (ro
 pub back_up-requires-clause-node : goal.back_up-requires-clause-node
 back_up-requires-clause-node c =
     let row : Row = record { group = c.args.all.now; low = 0; up = greedy_cost (problem_of c.args.inst.now) (members c.args.all.now) } in
-    let is = ap length (c.in_ok-list.ensures.rows ∙ ap (λ (l : List Row). l ++ row ∷ []) c.requires.empty) in
+    let is = ap length (c.list.ensures.rows ∙ ap (λ (l : List Row). l ++ row ∷ []) c.requires.empty) in
     omega arith
 
 pub returns-clause-some : goal.returns-clause-some
 returns-clause-some c =
-    let more = longer c.args.local.now.graph.rows.items c.list.new.local.graph.rows.items c.back_up.new.local.graph.rows.items _ c.in_ok-list.ensures.rows c.in_ok-back_up.ensures.narrows in
+    let more = longer c.args.local.now.graph.rows.items c.list.new.local.graph.rows.items c.back_up.new.local.graph.rows.items _ c.list.ensures.rows c.back_up.ensures.narrows in
     omega arith
 
 pub returns-clause-first : goal.returns-clause-first
 returns-clause-first c =
     let row : Row = record { group = c.args.all.now; low = 0; up = greedy_cost (problem_of c.args.inst.now) (members c.args.all.now) } in
     let new = c.back_up.new.local.graph.rows.items in
-    let narrows = subst (λ (l : List Row). Narrows l new) (c.in_ok-list.ensures.rows ∙ ap (λ (l : List Row). l ++ row ∷ []) c.requires.empty) c.in_ok-back_up.ensures.narrows in
+    let narrows = subst (λ (l : List Row). Narrows l new) (c.list.ensures.rows ∙ ap (λ (l : List Row). l ++ row ∷ []) c.requires.empty) c.back_up.ensures.narrows in
     ap members (first-group row [] new narrows) ∙ c.requires.all
 
 pub returns-clause-covers : goal.returns-clause-covers
-returns-clause-covers c = covers-on c.args.seat.now.view c.list.new.seat.view c.back_up.new.seat.view c.in_ok-back_up.ensures.covers c.in_ok-list.ensures.covers
+returns-clause-covers c = covers-on c.args.seat.now.view c.list.new.seat.view c.back_up.new.seat.view c.back_up.ensures.covers c.list.ensures.covers

@@ -1,6 +1,5 @@
-use Rattle.std.proofs.Common.{◌∙◌, ap, subst, arith, inr}
+use Rattle.std.proofs.Common.{◌∙◌, ap, arith, inr}
 use Rattle.seq_inst.specs.Members.{members}
-use Rattle.seq_work.specs.Turns.{HasWorked}
 use Rattle.seq_work.proofs.Few.{most-rows}
 use Rattle.seq_work.proofs.TurnLaws.{worked-none}
 use Rattle.seq_work.proofs.RunLaws.{covers-itself, covers-on, left-few, closed-known}
@@ -22,15 +21,15 @@ turns-init g c =
 pub turns-preserved : goal.turns-preserved
 turns-preserved g c =
     let i = c.turns.invariant in
-    let moved = worked-none c.args.shared.now.inst g.N.Naming.words c.turn-in-turns.new.seat c.turns.local c.turn-in-turns.new.local c.in_ok-missed.field-0 c.in_default.not-Some c.in_ok-missed.ensures.worked in
+    let moved = worked-none c.args.shared.now.inst g.N.Naming.words c.turn-in-turns.new.seat c.turns.local c.turn-in-turns.new.local c.turn-in-turns.result c.in_default.not-Some c.turn-in-turns.ensures.worked in
     let some = i.some in
     let kept = moved.keeps 0 (omega arith) in
     let there = kept.0 in
     let less = moved.less in
     let count = i.turns in
     record {
-      ready = c.in_ok-missed.ensures.ready;
-      covers = covers-on _ _ _ c.in_ok-missed.ensures.covers i.covers;
+      ready = c.turn-in-turns.ensures.ready;
+      covers = covers-on _ _ _ c.turn-in-turns.ensures.covers i.covers;
       some = omega arith;
       first = ap members kept.1 ∙ i.first;
       turns = omega arith;
@@ -42,7 +41,7 @@ returns-clause-worked g c =
     inr (closed-known c.args.shared.now.inst g.N.Naming.words c.turns.seat c.turns.local i.ready i.some i.first c.index.result.now c.index-in-turns.result.now c.index.ensures c.index-in-turns.ensures c.turns-test.false)
 
 pub returns-in-Some-clause-worked : goal.returns-in-Some-clause-worked
-returns-in-Some-clause-worked g c = subst (HasWorked c.args.shared.now.inst g.N.Naming.words c.turn-in-turns.new.seat c.turns.local c.turn-in-turns.new.local) c.in-Some.is c.in_ok-missed.ensures.worked
+returns-in-Some-clause-worked g c = c.in-Some.ensures.worked
 
 pub returns-in-Some-clause-covers : goal.returns-in-Some-clause-covers
-returns-in-Some-clause-covers g c = covers-on _ _ _ c.in_ok-missed.ensures.covers c.turns.invariant.covers
+returns-in-Some-clause-covers g c = covers-on _ _ _ c.turn-in-turns.ensures.covers c.turns.invariant.covers
