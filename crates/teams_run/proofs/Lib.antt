@@ -17,3 +17,4 @@ pub mod BadLaws
 pub mod OneReasoned
 pub mod ReasonLaws
 pub mod FileLaws
+pub mod AskedLaws

@@ -1,5 +1,5 @@
 -- Why no text comes of a matrix says why none comes of the bytes.
-use Rattle.std.proofs.Common.{◌≡◌, ◌∙◌, ℕ, ◌<◌, List, length, inr, sym, ap, subst, refl, arith}
+use Rattle.std.proofs.Common.{◌≡◌, ◌∙◌, ◌⊎◌, ℕ, ◌<◌, List, length, inl, inr, sym, ap, subst, refl, arith}
 use Rattle.std.specs.Prelude.{true, nat_lt, Some, slice_get}
 use Rattle.std.proofs.lemmas.Bool.Decides.{nat_tests}
 use Rattle.seq_theory.specs.States.{System, firsts}
@@ -34,11 +34,9 @@ pub unfit : (plan : Plan) (content : List ℕ) (flat : Flat) (matrix : Matrix) (
 unfit plan content flat matrix fault of_text first = inr (record { flat = flat; matrix = matrix; of_text = of_text; first = first })
 
 -- a search and a check refuse a system for its ambiguity groups
-pub unsolved : (action : Action) (sys : System) (fault : ModelFault) → action ≡ Solve → TellsFirst (class_refusals sys) fault → TellsFirst (fit_refusals action sys) fault
-unsolved action sys fault is first = subst (λ a. TellsFirst (fit_refusals a sys) fault) (sym is) first
-
-pub unchecked : (plan : Plan) (content : List ℕ) (flat : Flat) (matrix : Matrix) (fault : ModelFault) → plan.action ≡ Check → IsMatrixOfText content plan.mode flat matrix → TellsFirst (class_refusals (system_of matrix)) fault → IsFaultOfBytes plan content fault
-unchecked plan content flat matrix fault is of_text first = unfit plan content flat matrix fault of_text (subst (λ a. TellsFirst (fit_refusals a (system_of matrix)) fault) (sym is) first)
+pub unprepared : (plan : Plan) (content : List ℕ) (flat : Flat) (matrix : Matrix) (fault : ModelFault) → (plan.action ≡ Solve) ⊎ (plan.action ≡ Check) → IsMatrixOfText content plan.mode flat matrix → TellsFirst (class_refusals (system_of matrix)) fault → IsFaultOfBytes plan content fault
+unprepared plan content flat matrix fault (inl is) of_text first = unfit plan content flat matrix fault of_text (subst (λ a. TellsFirst (fit_refusals a (system_of matrix)) fault) (sym is) first)
+unprepared plan content flat matrix fault (inr is) of_text first = unfit plan content flat matrix fault of_text (subst (λ a. TellsFirst (fit_refusals a (system_of matrix)) fault) (sym is) first)
 
 -- an accepted model that is prepared is fit for a check
 pub is_fit : (plan : Plan) (content : List ℕ) (flat : Flat) (matrix : Matrix) (mode : List ℕ) (prepared : Prepared) → IsMatrixOfText content plan.mode flat matrix → IsPrepared matrix mode prepared → IsFit plan content

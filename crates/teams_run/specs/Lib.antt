@@ -9,3 +9,4 @@ pub mod Samples
 pub mod Texts
 pub mod Exact
 pub mod Runs
+pub mod Asked

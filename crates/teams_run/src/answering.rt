@@ -1,6 +1,10 @@
 //! What is due for the bytes of a model, as a plan asks. All actions go the same way from the bytes to the
 //! matrix, and part there; the check of a certificate goes on with a second file.
-ghost use Rattle.std.specs.Prelude.{◌≡◌, ◌≢◌, ◌<◌, length, option_map, IfOk, IfErr, IfSome};
+ghost use Rattle.std.specs.Prelude.{◌≡◌, ◌≢◌, ◌⊎◌, ◌<◌, ◌≤◌, length, option_map, IfOk, IfErr, IfSome};
+ghost use Rattle.seq_theory.specs.Tree.{AsksOnly};
+ghost use Rattle.seq_inst.specs.Instances.{problem_of};
+ghost use Rattle.seq_inst.specs.Trees.{tree_of};
+ghost use Rattle.seq_finish.specs.Outcomes.{IsRightOutcome};
 ghost use Rattle.sig_flat.specs.Valid.{IsValid as IsValidFlat};
 ghost use Rattle.sig_flat.specs.declared.flat.Flat.{Flat};
 ghost use Rattle.sig_matrix.specs.Valid.{IsValid};
@@ -18,6 +22,7 @@ use crate::due::Due;
 use crate::preparing::{Prepared, prepare};
 use crate::solving::solution_of;
 use crate::status::Status;
+use seq_inst::Outcome;
 use sig_classes::classes_of;
 use sig_figures::{figures_of, figures_text};
 use sig_flat::Flat;
@@ -98,19 +103,26 @@ fn figured(
     figures_text(alloc, flat, matrix, &figures, name)
 }
 
-/// What `solve` writes of the matrix.
-#[tactic(auto, using(crate::proofs::UnfitLaws::unsolved))]
-fn solve_due(alloc: Global, plan: &Plan, flat: &Flat, matrix: &Matrix) -> Result<Due, ModelFault>
-    requires action { plan.now.action ≡ Action.Solve }
+/// The report of an outcome for a model that was ready for the search.
+pub fn told(
+    alloc: Global,
+    plan: &Plan,
+    accepted: &Accepted,
+    prepared: &Prepared,
+    outcome: &Outcome,
+) -> Result<Due, AllocError>
     requires limit { IsLimit plan.now.groups }
-    requires valid { IsValid matrix.now }
-    requires labels { ArePrintable (labels_from matrix.now (mode_word plan.now.mode)) }
-    ensures text { IfOk result (λ due. IsTextFor Action.Solve plan.now flat.now matrix.now due.status due.text.items) }
-    ensures unfit { IfErr result (TellsFirst (fit_refusals plan.now.action (system_of matrix.now))) }
+    requires valid { IsValid accepted.now.matrix }
+    requires labels { ArePrintable (labels_from accepted.now.matrix (mode_word plan.now.mode)) }
+    requires prepared { IsPrepared accepted.now.matrix (mode_word plan.now.mode) prepared.now }
+    requires right { IsRightOutcome (problem_of prepared.now.inst) plan.now.groups outcome.now }
+    requires there { AsksOnly (problem_of prepared.now.inst).tests (tree_of outcome.now.strategy) }
+    requires order { outcome.now.low ≤ outcome.now.cost }
+    ensures { IfOk result (λ due. IsTextFor Action.Solve plan.now accepted.now.flat accepted.now.matrix due.status due.text.items) }
 {
     let name = mode_name(plan);
-    let prepared = prepare(alloc, matrix, name)?;
-    let solution = solution_of(alloc, matrix, &prepared, name, plan.groups)?;
+    let matrix = &accepted.matrix;
+    let solution = solution_of(alloc, matrix, prepared, name, plan.groups, outcome)?;
     Ok(Due::of_verdict(solution.verdict, solution.text))
 }
 
@@ -127,6 +139,7 @@ fn done(text: Vec<u8>) -> Due
 
 /// What an action writes of the model alone.
 fn action_due(alloc: Global, plan: &Plan, accepted: &Accepted) -> Result<Due, ModelFault>
+    requires quiet { plan.now.action ≢ Action.Solve }
     requires alone { plan.now.action ≢ Action.Check }
     requires file { plan.now.action ≢ Action.Sample }
     requires log { plan.now.action ≢ Action.Reason }
@@ -143,7 +156,6 @@ fn action_due(alloc: Global, plan: &Plan, accepted: &Accepted) -> Result<Due, Mo
     let matrix = &accepted.matrix;
     let name = mode_name(plan);
     match plan.action {
-        Action::Solve => solve_due(alloc, plan, &accepted.flat, matrix),
         Action::Matrix => {
             let text = matrix_text(alloc, matrix, name)?;
             Ok(done(text))
@@ -152,12 +164,13 @@ fn action_due(alloc: Global, plan: &Plan, accepted: &Accepted) -> Result<Due, Mo
             let text = figured(alloc, &accepted.flat, matrix, accepted.mode, name)?;
             Ok(done(text))
         }
-        Action::Check | Action::Sample | Action::Reason => unreachable!(),
+        Action::Solve | Action::Check | Action::Sample | Action::Reason => unreachable!(),
     }
 }
 
 /// What the plan asks of the model that the bytes describe, where it needs no certificate.
 pub fn answer_for(alloc: Global, plan: &Plan, content: &[u8]) -> Result<Due, ModelFault>
+    requires quiet { plan.now.action ≢ Action.Solve }
     requires alone { plan.now.action ≢ Action.Check }
     requires file { plan.now.action ≢ Action.Sample }
     requires log { plan.now.action ≢ Action.Reason }
@@ -169,15 +182,16 @@ pub fn answer_for(alloc: Global, plan: &Plan, content: &[u8]) -> Result<Due, Mod
     action_due(alloc, plan, &accepted)
 }
 
-/// The matrix of the text with its instance, against which a certificate is checked.
+/// The matrix of the text with its instance, for a search or the check of a certificate.
 pub fn prepared_for(
     alloc: Global,
     plan: &Plan,
     content: &[u8],
 ) -> Result<(Accepted, Prepared), ModelFault>
-    requires action { plan.now.action ≡ Action.Check }
+    requires action { (plan.now.action ≡ Action.Solve) ⊎ (plan.now.action ≡ Action.Check) }
     ensures text { IfOk result (λ both. IsMatrixOfText content.now plan.now.mode both.0.flat both.0.matrix) }
     ensures valid { IfOk result (λ both. IsValid both.0.matrix) }
+    ensures labels { IfOk result (λ both. ArePrintable (labels_from both.0.matrix (mode_word plan.now.mode))) }
     ensures prepared { IfOk result (λ both. IsPrepared both.0.matrix (mode_word plan.now.mode) both.1) }
     ensures refused { IfErr result (IsFaultOfBytes plan.now content.now) }
 {

@@ -5,6 +5,7 @@
 
 mod accepting;
 mod answering;
+mod asking;
 mod due;
 mod judging;
 mod laws;
@@ -13,6 +14,7 @@ mod reasoning;
 mod refusing;
 mod running;
 mod sampling;
+mod searching;
 mod solving;
 mod status;
 

@@ -5,6 +5,8 @@ ghost use Rattle.std.specs.String.{string_bytes};
 ghost use Rattle.sig_lines.specs.Written.{with_line};
 ghost use Rattle.teams_run.specs.RefusalText.{with_number, key_step, item_step, test_step, last_step, spot_word, place_word, refusal_words, refusal_line};
 
+use crate::due::Due;
+use crate::status::Status;
 use sig_lines::Lines;
 use sig_types::{Key, Kind, Place, Refusal};
 use std::alloc::{AllocError, Global};
@@ -113,10 +115,22 @@ fn write_refusal(alloc: Global, out: &mut Lines, refusal: Refusal) -> Result<(),
 }
 
 /// The line that tells a person what is refused, and where.
-pub fn refusal_text(alloc: Global, refusal: Refusal) -> Result<Vec<u8>, AllocError>
+fn refusal_text(alloc: Global, refusal: Refusal) -> Result<Vec<u8>, AllocError>
     ensures { IfOk result (λ text. text.items ≡ refusal_line refusal) }
 {
     let mut out = Lines::new(alloc);
     write_refusal(alloc, &mut out, refusal)?;
     Ok(out.into_bytes())
+}
+
+/// The line of a refusal, with its status.
+pub fn refused(alloc: Global, refusal: Refusal) -> Result<Due, AllocError>
+    ensures status { IfOk result (λ due. due.status ≡ Status.ModelRefused) }
+    ensures line { IfOk result (λ due. due.text.items ≡ refusal_line refusal) }
+{
+    let text = refusal_text(alloc, refusal)?;
+    Ok(Due {
+        status: Status::ModelRefused,
+        text,
+    })
 }

@@ -1,43 +1,35 @@
 //! The calls that the program makes. `run` reads the words of the command line and does what they ask;
-//! `run_quiet` does what a plan asks, on one thread. A text is made whole before the first write.
+//! `run_quiet` does what a plan asks without workers, and waits for nobody. A text is made whole before the first write.
 //!
 //! What a run leaves behind is told by one relation, `EndsAs`: a line for each status, with its cause.
-ghost use Rattle.std.specs.Prelude.{◌≡◌, ◌≢◌, [], map, string_bytes, Ok, IfOk, IfErr, IsErrOf, IsSome};
+ghost use Rattle.std.specs.Prelude.{◌≡◌, ◌≢◌, ◌≤◌, [], map, string_bytes, Ok, IfOk, IfErr, IsErrOf, IsSome};
 ghost use Rattle.sig_edge.specs.Causes.{Rose};
 ghost use Rattle.sig_edge.specs.Shelf.{Holds, HoldsNone, HoldsLonger};
 ghost use Rattle.teams_words.specs.Plans.{plan_of, IsProper};
-ghost use Rattle.teams_run.specs.RefusalText.{refusal_line};
 ghost use Rattle.teams_run.specs.Texts.{IsDue, IsFit, cert_limit, cert_name, log_limit, log_name};
 ghost use Rattle.teams_run.specs.Accepted.{refusals};
+ghost use Rattle.teams_run.specs.Asked.{IsAskedOfFile};
 ghost use Rattle.teams_run.specs.Runs.{moment, EndsAs, EndsFor, IsDueOfFile, IsDueText, WantsModel, HasLongFile, LacksFile};
 
 use crate::answering::{accepted_for, answer_for, mode_name, prepared_for};
+use crate::asking::{Asked, asked_of, due_alone, due_by};
 use crate::due::Due;
 use crate::judging::judgement_on;
 use crate::reasoning::reasoning_on;
-use crate::refusing::refusal_text;
+use crate::refusing::refused;
 use crate::sampling::sample_due;
 use crate::status::Status;
-use sig_edge::{FetchFault, Shelf, Sink, fetch, put_all};
-use sig_types::{ModelFault, Refusal};
+use sig_edge::{FetchFault, Gate, Shelf, Sink, fetch, put_all};
+use sig_types::ModelFault;
 use std::alloc::{AllocError, Global};
+use std::sync::Wait;
+use std::thread::Threads;
 use teams_words::{Action, Plan, PlanFault, plan_of};
-
-/// The line of a refusal.
-fn refused(alloc: Global, refusal: Refusal) -> Result<Due, AllocError>
-    ensures status { IfOk result (λ due. due.status ≡ Status.ModelRefused) }
-    ensures line { IfOk result (λ due. due.text.items ≡ refusal_line refusal) }
-{
-    let text = refusal_text(alloc, refusal)?;
-    Ok(Due {
-        status: Status::ModelRefused,
-        text,
-    })
-}
 
 /// What is due where the plan needs no certificate and no log, whatever files are held.
 fn answer_due(alloc: Global, plan: &Plan, content: &[u8]) -> Result<Due, AllocError>
     requires proper { IsProper plan.now }
+    requires quiet { plan.now.action ≢ Action.Solve }
     requires alone { plan.now.action ≢ Action.Check }
     requires file { WantsModel plan.now }
     requires log { plan.now.action ≢ Action.Reason }
@@ -141,9 +133,10 @@ fn reason_due<D: Shelf>(
     }
 }
 
-/// What is due for the model's file that the shelf holds.
+/// What is due for the model's file that the shelf holds, where nothing is searched.
 fn file_due<D: Shelf>(alloc: Global, plan: &Plan, shelf: &mut D) -> Result<Due, FetchFault>
     requires proper { IsProper plan.now }
+    requires quiet { plan.now.action ≢ Action.Solve }
     requires file { WantsModel plan.now }
     ensures due { IfOk result (λ due. IsDueOfFile plan.now (D.holds shelf.old) due.status due.text.items) }
     ensures missing { IsErrOf result FetchFault.Missing → Rose (D.misses shelf.old) (D.misses shelf.new) × LacksFile plan.now (D.holds shelf.old) }
@@ -161,7 +154,58 @@ fn file_due<D: Shelf>(alloc: Global, plan: &Plan, shelf: &mut D) -> Result<Due, 
     }
 }
 
-/// What is due for the plan: for the chain of `sample`, which takes no file, or for a file.
+/// What a plan that asks for a strategy comes to before the search, for the model's file that the shelf holds.
+fn file_asked<D: Shelf>(alloc: Global, plan: &Plan, shelf: &mut D) -> Result<Asked, FetchFault>
+    requires action { plan.now.action ≡ Action.Solve }
+    ensures asked { IfOk result (IsAskedOfFile plan.now (D.holds shelf.old)) }
+    ensures missing { IsErrOf result FetchFault.Missing → Rose (D.misses shelf.old) (D.misses shelf.new) × LacksFile plan.now (D.holds shelf.old) }
+    ensures failed { IsErrOf result FetchFault.Failed → Rose (D.faults shelf.old) (D.faults shelf.new) }
+    ensures too_long { IsErrOf result FetchFault.TooLong → HasLongFile plan.now (D.holds shelf.old) }
+    ensures same { D.holds shelf.new ≡ D.holds shelf.old }
+{
+    let content = fetch(alloc, shelf, plan.model.as_str(), 1_048_576)?;
+    match asked_of(alloc, plan, content.as_slice()) {
+        Ok(asked) => Ok(asked),
+        Err(_) => Err(FetchFault::OutOfMemory),
+    }
+}
+
+/// What is due for a strategy that is searched on this thread.
+fn solve_due<D: Shelf>(alloc: Global, plan: &Plan, shelf: &mut D) -> Result<Due, FetchFault>
+    requires proper { IsProper plan.now }
+    requires action { plan.now.action ≡ Action.Solve }
+    ensures due { IfOk result (λ due. IsDueText plan.now (D.holds shelf.old) due.status due.text.items) }
+    ensures missing { IsErrOf result FetchFault.Missing → WantsModel plan.now × Rose (D.misses shelf.old) (D.misses shelf.new) × LacksFile plan.now (D.holds shelf.old) }
+    ensures failed { IsErrOf result FetchFault.Failed → WantsModel plan.now × Rose (D.faults shelf.old) (D.faults shelf.new) }
+    ensures too_long { IsErrOf result FetchFault.TooLong → WantsModel plan.now × HasLongFile plan.now (D.holds shelf.old) }
+    ensures same { D.holds shelf.new ≡ D.holds shelf.old }
+{
+    let asked = file_asked(alloc, plan, shelf)?;
+    in_memory(due_alone(alloc, plan, asked))
+}
+
+/// What is due for a strategy that the plan's workers search.
+fn search_due<R: Threads + Wait + Sync, D: Shelf, G: Gate + Sync>(
+    rt: &R,
+    alloc: Global,
+    plan: &Plan,
+    shelf: &mut D,
+    gate: &G,
+) -> Result<Due, FetchFault>
+    requires proper { IsProper plan.now }
+    requires action { plan.now.action ≡ Action.Solve }
+    requires workers { 1 ≤ plan.now.workers }
+    ensures due { IfOk result (λ due. IsDueText plan.now (D.holds shelf.old) due.status due.text.items) }
+    ensures missing { IsErrOf result FetchFault.Missing → WantsModel plan.now × Rose (D.misses shelf.old) (D.misses shelf.new) × LacksFile plan.now (D.holds shelf.old) }
+    ensures failed { IsErrOf result FetchFault.Failed → WantsModel plan.now × Rose (D.faults shelf.old) (D.faults shelf.new) }
+    ensures too_long { IsErrOf result FetchFault.TooLong → WantsModel plan.now × HasLongFile plan.now (D.holds shelf.old) }
+    ensures same { D.holds shelf.new ≡ D.holds shelf.old }
+{
+    let asked = file_asked(alloc, plan, shelf)?;
+    in_memory(due_by(rt, alloc, plan, asked, gate))
+}
+
+/// What is due for the plan on this thread alone: for the chain of `sample`, which takes no file, or for a file.
 #[tactic(auto, using(crate::proofs::EndLaws::text_of_file, crate::proofs::EndLaws::text_of_chain))]
 fn due_for<D: Shelf>(alloc: Global, plan: &Plan, shelf: &mut D) -> Result<Due, FetchFault>
     requires { IsProper plan.now }
@@ -173,12 +217,14 @@ fn due_for<D: Shelf>(alloc: Global, plan: &Plan, shelf: &mut D) -> Result<Due, F
 {
     if plan.action == Action::Sample {
         in_memory(sample_due(alloc, plan))
+    } else if plan.action == Action::Solve {
+        solve_due(alloc, plan, shelf)
     } else {
         file_due(alloc, plan, shelf)
     }
 }
 
-/// Does what the plan asks, on one thread whatever the number of workers, and says how it ended.
+/// Does what the plan asks, on the caller's thread alone, and says how it ended.
 #[tactic(auto, using(crate::proofs::EndLaws::writes))]
 pub fn run_quiet<D: Shelf, K: Sink>(
     alloc: Global,
@@ -186,7 +232,8 @@ pub fn run_quiet<D: Shelf, K: Sink>(
     shelf: &mut D,
     sink: &mut K,
 ) -> Status
-    requires { IsProper plan.now }
+    requires proper { IsProper plan.now }
+    requires alone { plan.now.action ≡ Action.Solve → plan.now.workers ≡ 0 }
     ensures ends { EndsAs plan.now (moment (D.holds shelf.old) (D.misses shelf.old) (D.faults shelf.old) (K.wrote sink.old) (K.faults sink.old)) (moment (D.holds shelf.new) (D.misses shelf.new) (D.faults shelf.new) (K.wrote sink.new) (K.faults sink.new)) result }
     ensures same { D.holds shelf.new ≡ D.holds shelf.old }
 {
@@ -203,19 +250,72 @@ pub fn run_quiet<D: Shelf, K: Sink>(
     }
 }
 
-/// Does what the words of a command line ask, without the program's own name.
+/// Does what a plan with workers asks, and says how it ended.
+#[tactic(auto, using(crate::proofs::EndLaws::writes))]
+fn run_search<R: Threads + Wait + Sync, D: Shelf, K: Sink, G: Gate + Sync>(
+    rt: &R,
+    alloc: Global,
+    plan: &Plan,
+    shelf: &mut D,
+    sink: &mut K,
+    gate: &G,
+) -> Status
+    requires proper { IsProper plan.now }
+    requires action { plan.now.action ≡ Action.Solve }
+    requires workers { 1 ≤ plan.now.workers }
+    ensures ends { EndsAs plan.now (moment (D.holds shelf.old) (D.misses shelf.old) (D.faults shelf.old) (K.wrote sink.old) (K.faults sink.old)) (moment (D.holds shelf.new) (D.misses shelf.new) (D.faults shelf.new) (K.wrote sink.new) (K.faults sink.new)) result }
+    ensures same { D.holds shelf.new ≡ D.holds shelf.old }
+{
+    let due = match search_due(rt, alloc, plan, shelf, gate) {
+        Ok(found) => found,
+        Err(FetchFault::Missing) => return Status::Missing,
+        Err(FetchFault::Failed) => return Status::ReadFault,
+        Err(FetchFault::TooLong) => return Status::TooLong,
+        Err(FetchFault::OutOfMemory) => return Status::NoMemory,
+    };
+    match put_all(sink, due.text.as_slice()) {
+        Ok(_) => due.status,
+        Err(_) => Status::WriteFault,
+    }
+}
+
+/// Does what the plan asks, by as many workers as it asks for where it asks for a search, and says how it ended.
+fn run_plan<R: Threads + Wait + Sync, D: Shelf, K: Sink, G: Gate + Sync>(
+    rt: &R,
+    alloc: Global,
+    plan: &Plan,
+    shelf: &mut D,
+    sink: &mut K,
+    gate: &G,
+) -> Status
+    requires { IsProper plan.now }
+    ensures ends { EndsAs plan.now (moment (D.holds shelf.old) (D.misses shelf.old) (D.faults shelf.old) (K.wrote sink.old) (K.faults sink.old)) (moment (D.holds shelf.new) (D.misses shelf.new) (D.faults shelf.new) (K.wrote sink.new) (K.faults sink.new)) result }
+    ensures same { D.holds shelf.new ≡ D.holds shelf.old }
+{
+    if plan.action == Action::Solve && plan.workers > 0 {
+        run_search(rt, alloc, plan, shelf, sink, gate)
+    } else {
+        run_quiet(alloc, plan, shelf, sink)
+    }
+}
+
+/// Does what the words of a command line ask, without the program's own name. A search has as many workers as they say,
+/// 4 where they say nothing, and each turn of a worker passes the gate; with workers it returns if each lock is given
+/// and the gate returns.
 #[tactic(auto, using(crate::proofs::EndLaws::as_plan, crate::proofs::EndLaws::no_memory, crate::proofs::EndLaws::usage))]
-pub fn run<D: Shelf, K: Sink>(
+pub fn run<R: Threads + Wait + Sync, D: Shelf, K: Sink, G: Gate + Sync>(
+    rt: &R,
     alloc: Global,
     words: &[String],
     shelf: &mut D,
     sink: &mut K,
+    gate: &G,
 ) -> Status
     ensures ends { EndsFor (plan_of (map string_bytes words.now)) (moment (D.holds shelf.old) (D.misses shelf.old) (D.faults shelf.old) (K.wrote sink.old) (K.faults sink.old)) (moment (D.holds shelf.new) (D.misses shelf.new) (D.faults shelf.new) (K.wrote sink.new) (K.faults sink.new)) result }
     ensures same { D.holds shelf.new ≡ D.holds shelf.old }
 {
     match plan_of(alloc, words) {
-        Ok(plan) => run_quiet(alloc, &plan, shelf, sink),
+        Ok(plan) => run_plan(rt, alloc, &plan, shelf, sink, gate),
         Err(PlanFault::Usage) => Status::Usage,
         Err(PlanFault::OutOfMemory) => Status::NoMemory,
     }

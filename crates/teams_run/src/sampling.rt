@@ -15,7 +15,8 @@ ghost use Rattle.teams_run.specs.Samples.{chain_model, summary_lines};
 ghost use Rattle.teams_run.specs.Runs.{IsDueOfChain};
 
 use crate::due::Due;
-use crate::solving::outcome_of;
+use crate::searching::outcome_of;
+use crate::solving::outcome_stands;
 use seq_inst::{Instance, Outcome};
 use sig_classes::{classes_of, instance_of};
 use sig_flat::{Flat, flatten};
@@ -119,7 +120,8 @@ pub fn sample_due(alloc: Global, plan: &Plan) -> Result<Due, AllocError>
     let matrix = matrix_of(alloc, &flat, None)?;
     chain_is_small(parts, &flat, &matrix);
     let inst = instance_of_few(alloc, &matrix)?;
-    let outcome = outcome_of(alloc, &matrix, &inst, plan.groups)?;
+    let outcome = outcome_of(alloc, &inst, plan.groups)?;
+    outcome_stands(&matrix, &inst, &outcome, plan.groups);
     let text = summary_text(alloc, parts, &matrix, &inst, &outcome)?;
     Ok(Due::of_verdict(outcome.verdict, text))
 }

@@ -1,4 +1,4 @@
-//! From the instance of a system to the report of a strategy: the search, its outcome and its text. The
+//! From the outcome of a search to the report of a strategy: what it says, and its text. The
 //! search works on ambiguity groups; what is promised speaks of single states, and the theory's passage
 //! from the one to the other joins the two.
 ghost use Rattle.std.specs.Prelude.{◌≤◌, length, IfOk};
@@ -13,15 +13,14 @@ ghost use Rattle.seq_finish.specs.Outcomes.{IsRightOutcome};
 ghost use Rattle.seq_shown.specs.Laws.{ArePrintable};
 ghost use Rattle.teams_words.specs.Plans.{IsLimit};
 ghost use Rattle.teams_run.specs.Ready.{IsPrepared};
-ghost use Rattle.teams_run.specs.Solved.{IsSolution, IsSolved, Stands};
+ghost use Rattle.teams_run.specs.Solved.{IsSolution, IsSolved};
 
 use crate::preparing::Prepared;
 use seq_cert::report_of;
 use seq_check::certified_holds;
-use seq_finish::{finish_graph, outcomes_hold};
+use seq_finish::outcomes_hold;
 use seq_inst::{Instance, Outcome, Verdict};
 use seq_shown::{outcomes_print, reports_hold};
-use seq_solo::{Walked, walk};
 use seq_theory::{classes_hold, has_least, passage_holds};
 use sig_matrix::Matrix;
 use std::alloc::{AllocError, Global};
@@ -34,38 +33,17 @@ pub struct Solution {
 }
 
 /// A right outcome over the ambiguity groups says the same of the states.
-fn outcome_stands(matrix: &Matrix, inst: &Instance, outcome: &Outcome, groups: u32)
+pub fn outcome_stands(matrix: &Matrix, inst: &Instance, outcome: &Outcome, groups: u32)
     requires valid { IsValid matrix.now }
+    requires few { length (firsts (system_of matrix.now)) ≤ 512 }
     requires inst { IsOfClasses (system_of matrix.now) (problem_of inst.now) }
     requires right { IsRightOutcome (problem_of inst.now) groups outcome.now }
-    ensures { Stands (system_of matrix.now) outcome.now }
+    ensures { IsSolved (system_of matrix.now) (problem_of inst.now) groups outcome.now }
 {
     passage_holds();
     classes_hold();
     has_least();
     outcomes_hold();
-}
-
-/// What a search on one thread comes to, over the ambiguity groups of the matrix.
-pub fn outcome_of(
-    alloc: Global,
-    matrix: &Matrix,
-    inst: &Instance,
-    groups: u32,
-) -> Result<Outcome, AllocError>
-    requires valid { IsValid matrix.now }
-    requires few { length (firsts (system_of matrix.now)) ≤ 512 }
-    requires classes { IsOfClasses (system_of matrix.now) (problem_of inst.now) }
-    requires limit { IsLimit groups }
-    ensures solved { IfOk result (IsSolved (system_of matrix.now) (problem_of inst.now) groups) }
-    // A report can be written of it.
-    ensures there { IfOk result (λ o. AsksOnly (problem_of inst.now).tests (tree_of o.strategy)) }
-    ensures proper { IfOk result (λ o. o.low ≤ o.cost) }
-{
-    let Walked { graph, missed } = walk(alloc, inst, groups)?;
-    let outcome = finish_graph(alloc, inst, groups, graph, missed)?;
-    outcome_stands(matrix, inst, &outcome, groups);
-    Ok(outcome)
 }
 
 /// The report of a strategy for the system of the matrix.
@@ -75,18 +53,22 @@ pub fn solution_of(
     prepared: &Prepared,
     mode: &str,
     groups: u32,
+    outcome: &Outcome,
 ) -> Result<Solution, AllocError>
     requires valid { IsValid matrix.now }
     requires prepared { IsPrepared matrix.now mode.now prepared.now }
     requires printable { ArePrintable (labels_from matrix.now mode.now) }
     requires limit { IsLimit groups }
+    requires right { IsRightOutcome (problem_of prepared.now.inst) groups outcome.now }
+    requires there { AsksOnly (problem_of prepared.now.inst).tests (tree_of outcome.now.strategy) }
+    requires order { outcome.now.low ≤ outcome.now.cost }
     ensures { IfOk result (λ s. IsSolution (system_of matrix.now) (labels_from matrix.now mode.now) groups s.verdict s.text.items) }
 {
-    let outcome = outcome_of(alloc, matrix, &prepared.inst, groups)?;
+    outcome_stands(matrix, &prepared.inst, outcome, groups);
     reports_hold();
     outcomes_print();
     certified_holds();
-    let text = report_of(alloc, &prepared.inst, &outcome, &prepared.labels)?;
+    let text = report_of(alloc, &prepared.inst, outcome, &prepared.labels)?;
     Ok(Solution {
         verdict: outcome.verdict,
         text,

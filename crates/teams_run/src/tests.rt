@@ -3,12 +3,16 @@
 use super::*;
 use crate::limited::*;
 use crate::texts::*;
-use sig_edge::{MemShelf, MemSink};
+use sig_edge::{FreeGate, MemShelf, MemSink};
 use sig_types::Text;
 use std::alloc::{AllocError, Global};
 use std::str;
+use std::sync::Wait;
 use std::test::Fail;
+use std::thread::Threads;
 use teams_words::{Action, Plan};
+
+mod workers;
 
 fn words_of(alloc: Global, texts: &[&str]) -> Result<Vec<String>, AllocError> {
     let mut words = Vec::new(alloc);
@@ -19,22 +23,30 @@ fn words_of(alloc: Global, texts: &[&str]) -> Result<Vec<String>, AllocError> {
 }
 
 /// How a command on the held text ends, and what it writes.
-fn ran(alloc: Global, words: &[&str], text: &[u8]) -> Result<(Status, Vec<u8>), AllocError> {
+fn ran<R: Threads + Wait + Sync>(
+    rt: &R,
+    alloc: Global,
+    words: &[&str],
+    text: &[u8],
+) -> Result<(Status, Vec<u8>), AllocError> {
     let mut shelf = MemShelf::new(alloc, Vec::new(alloc));
     shelf.add("m.toml", text)?;
     let mut sink = MemSink::new(alloc, 65_536, 65_536, Vec::new(alloc))?;
     let status = run(
+        rt,
         alloc,
         words_of(alloc, words)?.as_slice(),
         &mut shelf,
         &mut sink,
+        &FreeGate,
     );
     let wrote = Vec::from_slice(alloc, sink.wrote())?;
     Ok((status, wrote))
 }
 
 /// How `solve` ends on the two-part box with these failing reads and writes of at most ten bytes.
-fn faulty(
+fn faulty<R: Threads + Wait + Sync>(
+    rt: &R,
     alloc: Global,
     name: &str,
     fail_reads: Vec<u64>,
@@ -44,7 +56,14 @@ fn faulty(
     shelf.add("m.toml", BOX.as_bytes())?;
     let mut sink = MemSink::new(alloc, 4096, 10, fail_writes)?;
     let words = words_of(alloc, &["solve", name])?;
-    let status = run(alloc, words.as_slice(), &mut shelf, &mut sink);
+    let status = run(
+        rt,
+        alloc,
+        words.as_slice(),
+        &mut shelf,
+        &mut sink,
+        &FreeGate,
+    );
     let wrote = Vec::from_slice(alloc, sink.wrote())?;
     Ok((status, wrote))
 }
@@ -61,7 +80,8 @@ fn reports(rt: HostRuntime) -> Result<(), Fail> {
         (RING, RING_REPORT),
         (RADIO, RADIO_REPORT),
     ] {
-        let (status, wrote) = ran(alloc, &["solve", "m.toml"], text.as_bytes())?;
+        let words = ["solve", "m.toml", "--workers=0"];
+        let (status, wrote) = ran(&rt, alloc, &words, text.as_bytes())?;
         assert_eq!(rt; status.number(), 0);
         assert_eq!(rt; wrote.as_slice(), report.as_bytes());
     }
@@ -80,12 +100,12 @@ fn matrices_and_figures(rt: HostRuntime) -> Result<(), Fail> {
         ("figures", UNSEEN, UNSEEN_FIGURES),
         ("figures", TWINS, TWINS_FIGURES),
     ] {
-        let (status, wrote) = ran(alloc, &[action, "m.toml"], text.as_bytes())?;
+        let (status, wrote) = ran(&rt, alloc, &[action, "m.toml"], text.as_bytes())?;
         assert_eq!(rt; status.number(), 0);
         assert_eq!(rt; wrote.as_slice(), printed.as_bytes());
     }
     let words = ["matrix", "m.toml", "--mode=backup"];
-    let (status, wrote) = ran(alloc, &words, FEED.as_bytes())?;
+    let (status, wrote) = ran(&rt, alloc, &words, FEED.as_bytes())?;
     assert_eq!(rt; status.number(), 0);
     assert_eq!(rt; wrote.as_slice(), BACKUP_MATRIX.as_bytes());
     Ok(())
@@ -105,23 +125,27 @@ fn refusals(rt: HostRuntime) -> Result<(), Fail> {
         (MODELESS, "refused M12 at block[0].link[0]\n"),
         (STATELESS, "refused M14 at states\n"),
     ] {
-        let (status, wrote) = ran(alloc, &["solve", "m.toml"], text.as_bytes())?;
+        let (status, wrote) = ran(&rt, alloc, &["solve", "m.toml"], text.as_bytes())?;
         assert_eq!(rt; wrote.as_slice(), line.as_bytes());
         assert_eq!(rt; status.number(), 1);
     }
     let words = ["matrix", "m.toml", "--mode=zzz"];
-    let (status, wrote) = ran(alloc, &words, FEED.as_bytes())?;
+    let (status, wrote) = ran(&rt, alloc, &words, FEED.as_bytes())?;
     assert_eq!(rt; status.number(), 1);
     assert_eq!(rt; wrote.as_slice(), b"refused M15 at mode\n".as_slice());
     for end in 0..BOX.len() {
-        let (status, _wrote) = ran(alloc, &["solve", "m.toml"], &BOX.as_bytes()[..end])?;
+        let (status, _wrote) = ran(&rt, alloc, &["solve", "m.toml"], &BOX.as_bytes()[..end])?;
         assert!(rt; status.number() <= 1, "cut after {end} bytes");
     }
     Ok(())
 }
 
 /// How a command line, its words parted by single spaces, ends on the two-part box.
-fn ended(alloc: Global, line: &str) -> Result<Status, AllocError> {
+fn ended<R: Threads + Wait + Sync>(
+    rt: &R,
+    alloc: Global,
+    line: &str,
+) -> Result<Status, AllocError> {
     let mut words = Vec::new(alloc);
     for word in line.split(' ') {
         words.push(String::from_str(alloc, word)?)?;
@@ -129,7 +153,15 @@ fn ended(alloc: Global, line: &str) -> Result<Status, AllocError> {
     let mut shelf = MemShelf::new(alloc, Vec::new(alloc));
     shelf.add("m.toml", BOX.as_bytes())?;
     let mut sink = MemSink::new(alloc, 4096, 4096, Vec::new(alloc))?;
-    Ok(run(alloc, words.as_slice(), &mut shelf, &mut sink))
+    let status = run(
+        rt,
+        alloc,
+        words.as_slice(),
+        &mut shelf,
+        &mut sink,
+        &FreeGate,
+    );
+    Ok(status)
 }
 
 #[test]
@@ -141,7 +173,7 @@ fn commands(rt: HostRuntime) -> Result<(), Fail> {
         "matrix m.toml --mode=normal",
         "figures m.toml",
     ] {
-        let status = ended(alloc, line)?;
+        let status = ended(&rt, alloc, line)?;
         assert_eq!(rt; status.number(), 0);
     }
     for line in [
@@ -164,7 +196,7 @@ fn commands(rt: HostRuntime) -> Result<(), Fail> {
         "sample 0",
         "sample 3 --mode=normal",
     ] {
-        let status = ended(alloc, line)?;
+        let status = ended(&rt, alloc, line)?;
         assert_eq!(rt; status.number(), 2);
     }
     Ok(())
@@ -174,13 +206,13 @@ fn commands(rt: HostRuntime) -> Result<(), Fail> {
 fn faults(rt: HostRuntime) -> Result<(), Fail> {
     let alloc = rt.alloc();
     let none = || Vec::new(alloc);
-    let (status, wrote) = faulty(alloc, "m.toml", none(), vec![in alloc; 2]?)?;
+    let (status, wrote) = faulty(&rt, alloc, "m.toml", none(), vec![in alloc; 2]?)?;
     assert_eq!(rt; status.number(), 5);
     assert_eq!(rt; wrote.as_slice(), b"teams repo".as_slice());
-    let (status, wrote) = faulty(alloc, "m.toml", vec![in alloc; 1]?, none())?;
+    let (status, wrote) = faulty(&rt, alloc, "m.toml", vec![in alloc; 1]?, none())?;
     assert_eq!(rt; status.number(), 4);
     assert_eq!(rt; wrote.len(), 0);
-    let (status, wrote) = faulty(alloc, "other.toml", none(), none())?;
+    let (status, wrote) = faulty(&rt, alloc, "other.toml", none(), none())?;
     assert_eq!(rt; status.number(), 8);
     assert_eq!(rt; wrote.len(), 0);
     Ok(())
@@ -193,11 +225,11 @@ fn lengths(rt: HostRuntime) -> Result<(), Fail> {
     for _ in BOX.len()..1_048_576 {
         text.push(b'\n')?;
     }
-    let (status, wrote) = ran(alloc, &["solve", "m.toml"], text.as_slice())?;
+    let (status, wrote) = ran(&rt, alloc, &["solve", "m.toml"], text.as_slice())?;
     assert_eq!(rt; status.number(), 0);
     assert_eq!(rt; wrote.as_slice(), BOX_REPORT.as_bytes());
     text.push(b'\n')?;
-    let (status, wrote) = ran(alloc, &["solve", "m.toml"], text.as_slice())?;
+    let (status, wrote) = ran(&rt, alloc, &["solve", "m.toml"], text.as_slice())?;
     assert_eq!(rt; status.number(), 9);
     assert_eq!(rt; wrote.len(), 0);
     Ok(())
@@ -273,7 +305,7 @@ fn unfolded_sizes(rt: HostRuntime) -> Result<(), Fail> {
         (2, 65, 64, "refused M13 at nodes\n"),
     ] {
         let text = stacked(alloc, blocks, uses, parts)?;
-        let (_status, wrote) = ran(alloc, &["matrix", "m.toml"], text.as_str().as_bytes())?;
+        let (_status, wrote) = ran(&rt, alloc, &["matrix", "m.toml"], text.as_str().as_bytes())?;
         assert!(rt;
             wrote.as_slice().starts_with(line.as_bytes()),
             "{blocks} {uses} {parts}"
@@ -287,15 +319,15 @@ fn unfolded_sizes(rt: HostRuntime) -> Result<(), Fail> {
 fn many_groups(rt: HostRuntime) -> Result<(), Fail> {
     let alloc = rt.alloc();
     let text = coded(alloc, 513)?;
-    let (status, wrote) = ran(alloc, &["solve", "m.toml"], text.as_str().as_bytes())?;
+    let (status, wrote) = ran(&rt, alloc, &["solve", "m.toml"], text.as_str().as_bytes())?;
     assert_eq!(rt; status.number(), 1);
     assert_eq!(rt; wrote.as_slice(), b"refused M13 at classes\n".as_slice());
     for action in ["matrix", "figures"] {
-        let (status, _wrote) = ran(alloc, &[action, "m.toml"], text.as_str().as_bytes())?;
+        let (status, _wrote) = ran(&rt, alloc, &[action, "m.toml"], text.as_str().as_bytes())?;
         assert_eq!(rt; status.number(), 0);
     }
     let text = coded(alloc, 512)?;
-    let (status, _wrote) = ran(alloc, &["solve", "m.toml"], text.as_str().as_bytes())?;
+    let (status, _wrote) = ran(&rt, alloc, &["solve", "m.toml"], text.as_str().as_bytes())?;
     assert_eq!(rt; status.number(), 0);
     Ok(())
 }
@@ -312,7 +344,12 @@ fn limits(rt: HostRuntime) -> Result<(), Fail> {
         (CROSSED, "--groups=8", 0, CROSSED_REPORT),
         (LAGGING, "--groups=7", 0, LAGGING_REPORT),
     ] {
-        let (status, wrote) = ran(alloc, &["solve", "m.toml", groups], text.as_bytes())?;
+        let (status, wrote) = ran(
+            &rt,
+            alloc,
+            &["solve", "m.toml", "--workers=0", groups],
+            text.as_bytes(),
+        )?;
         assert_eq!(rt; status.number(), number);
         assert_eq!(rt; wrote.as_slice(), report.as_bytes());
     }
@@ -320,13 +357,24 @@ fn limits(rt: HostRuntime) -> Result<(), Fail> {
 }
 
 /// How `reason` on the receiver ends over a log that is held, and what it writes.
-fn reasoned(alloc: Global, log: &[u8]) -> Result<(Status, Vec<u8>), AllocError> {
+fn reasoned<R: Threads + Wait + Sync>(
+    rt: &R,
+    alloc: Global,
+    log: &[u8],
+) -> Result<(Status, Vec<u8>), AllocError> {
     let mut shelf = MemShelf::new(alloc, Vec::new(alloc));
     shelf.add("m.toml", RADIO.as_bytes())?;
     shelf.add("l", log)?;
     let mut sink = MemSink::new(alloc, 4096, 4096, Vec::new(alloc))?;
     let words = words_of(alloc, &["reason", "m.toml", "--log=l"])?;
-    let status = run(alloc, words.as_slice(), &mut shelf, &mut sink);
+    let status = run(
+        rt,
+        alloc,
+        words.as_slice(),
+        &mut shelf,
+        &mut sink,
+        &FreeGate,
+    );
     let wrote = Vec::from_slice(alloc, sink.wrote())?;
     Ok((status, wrote))
 }
@@ -356,15 +404,20 @@ fn logs(rt: HostRuntime) -> Result<(), Fail> {
         ("fail s1/tp/v\nfail s4/tp/v\n", 7, "rejected line 2 L02\n"),
         ("fail s1/tp/v\npass s1/tp/v\n", 7, "rejected line 2 L03\n"),
     ] {
-        let (status, wrote) = reasoned(alloc, log.as_bytes())?;
+        let (status, wrote) = reasoned(&rt, alloc, log.as_bytes())?;
         assert_eq!(rt; status.number(), number);
         assert_eq!(rt; str::from_utf8(wrote.as_slice())?, text);
     }
-    let (status, wrote) = ran(alloc, &["reason", "m.toml", "--log=l"], RADIO.as_bytes())?;
+    let (status, wrote) = ran(
+        &rt,
+        alloc,
+        &["reason", "m.toml", "--log=l"],
+        RADIO.as_bytes(),
+    )?;
     assert_eq!(rt; status, Status::Missing);
     assert_eq!(rt; wrote.len(), 0);
     let long = vec![in alloc; b'x'; 1_048_577]?;
-    let (status, wrote) = reasoned(alloc, long.as_slice())?;
+    let (status, wrote) = reasoned(&rt, alloc, long.as_slice())?;
     assert_eq!(rt; status, Status::TooLong);
     assert_eq!(rt; wrote.len(), 0);
     Ok(())
@@ -453,7 +506,14 @@ fn altered_certificates(rt: HostRuntime) -> Result<(), Fail> {
     shelf.add("m.toml", BOX.as_bytes())?;
     let mut sink = MemSink::new(alloc, 64, 64, Vec::new(alloc))?;
     let words = words_of(alloc, &["check", "m.toml", "--cert=c"])?;
-    let status = run(alloc, words.as_slice(), &mut shelf, &mut sink);
+    let status = run(
+        &rt,
+        alloc,
+        words.as_slice(),
+        &mut shelf,
+        &mut sink,
+        &FreeGate,
+    );
     assert_eq!(rt; status.number(), 8);
     Ok(())
 }
@@ -575,7 +635,7 @@ fn greatest_numbers(rt: HostRuntime) -> Result<(), Fail> {
         let link = format!(in alloc; "[[block.link]]\nfrom = \"p{before}\"\nto = \"p{k}\"\n")?;
         text.push_str(link.as_str())?;
     }
-    let (status, wrote) = ran(alloc, &["solve", "m.toml"], text.as_str().as_bytes())?;
+    let (status, wrote) = ran(&rt, alloc, &["solve", "m.toml"], text.as_str().as_bytes())?;
     assert_eq!(rt; status.number(), 0);
     let report = str::from_utf8(wrote.as_slice())?;
     assert!(rt;
@@ -591,11 +651,11 @@ fn greatest_numbers(rt: HostRuntime) -> Result<(), Fail> {
 fn samples(rt: HostRuntime) -> Result<(), Fail> {
     let alloc = rt.alloc();
     for (parts, summary) in [("1", ONE_PART), ("3", THREE_PARTS), ("003", THREE_PARTS)] {
-        let (status, wrote) = ran(alloc, &["sample", parts], b"")?;
+        let (status, wrote) = ran(&rt, alloc, &["sample", parts], b"")?;
         assert_eq!(rt; wrote.as_slice(), summary.as_bytes());
         assert_eq!(rt; status.number(), 0);
     }
-    let (status, _wrote) = ran(alloc, &["sample", "20", "--groups=210"], b"")?;
+    let (status, _wrote) = ran(&rt, alloc, &["sample", "20", "--groups=210"], b"")?;
     assert_eq!(rt; status.number(), 0);
     Ok(())
 }
@@ -605,8 +665,8 @@ fn samples(rt: HostRuntime) -> Result<(), Fail> {
 fn a_long_sample(rt: HostRuntime) -> Result<(), Fail> {
     let alloc = rt.alloc();
     let words = ["sample", "100", "--groups", "20"];
-    let (status, wrote) = ran(alloc, &words, b"")?;
-    let (_status, again) = ran(alloc, &words, b"")?;
+    let (status, wrote) = ran(&rt, alloc, &words, b"")?;
+    let (_status, again) = ran(&rt, alloc, &words, b"")?;
     let counts = "teams sample 1\nparts 100\nstates 101\nclasses 101\ntests 100\n";
     assert!(rt; wrote.as_slice().starts_with(counts.as_bytes()));
     assert_eq!(rt; again.as_slice(), wrote.as_slice());

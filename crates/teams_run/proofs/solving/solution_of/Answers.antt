@@ -20,9 +20,9 @@ pub returns : goal.returns
 returns c =
     let inst = c.args.prepared.now.inst in
     let p = problem_of inst in
-    let o = c.in_ok-outcome.outcome in
+    let o = c.args.outcome.now in
     let labels = labels_from c.args.matrix.now c.args.mode.now in
-    let solved = c.in_ok-outcome.ensures.solved in
+    let solved = c.outcome_stands.ensures in
     let form = subst (λ l. IsPrintable o l → IsReport (report_from p o l)) c.requires.prepared.labels c.in_ok-text.ensures.form in
     let printable = c.outcomes_print.ensures p labels c.args.groups o inst.valid.told (inst.valid.some, inst.valid.few) c.requires.limit c.requires.printable solved.right in
     let accepted = c.reports_hold.ensures p labels c.args.groups o inst.stands.weighed inst.stands.told solved.right (form printable) in
