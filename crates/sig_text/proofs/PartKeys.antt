@@ -1,5 +1,5 @@
 -- Which keys are known in a part. Without a functional fault these are all but `signals`.
-use Rattle.std.proofs.Common.{◌≡◌, Bool, true, false, not, ◌&&◌, List, Option, Some, None, refl, sym, ap, ap₂, subst, ◌∙◌, inl, inr}
+use Rattle.std.proofs.Common.{◌≡◌, false, not, ◌&&◌, List, Option, Some, None, refl, sym, ap, ap₂, subst, ◌∙◌, inl, inr}
 use Rattle.std.specs.Prelude.{is_some, is_none}
 use Rattle.std.specs.Str.{bytes_eq}
 use Rattle.std.proofs.lemmas.Bool.{cases_Bool}
@@ -9,14 +9,10 @@ use Rattle.sig_types.specs.declared.refusals.Key.{Key}
 use Rattle.sig_types.specs.declared.refusals.Key.TheVariants.{Functional, Signals}
 use Rattle.sig_types.specs.Words.{key_word}
 use Rattle.sig_text.specs.Keys.{are_known, faulty_part_keys, is_known, part_keys, value_at}
-use Rattle.sig_text.proofs.Found.{and_false, and_true, found_here, found_later}
+use Rattle.sig_text.proofs.Found.{and_assoc, and_false, and_true, found_here, found_later}
 
 abbrev plain_keys : List Key
 plain_keys = part_keys None
-
-and_assoc : (a b c : Bool) → (a && (b && c)) ≡ ((a && b) && c)
-and_assoc true b c = refl
-and_assoc false b c = refl
 
 plain_known : (ms : Members) → are_known plain_keys ms ≡ (are_known faulty_part_keys ms && not (is_some (value_at Signals ms)))
 plain_known no_members = refl

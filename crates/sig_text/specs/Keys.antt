@@ -1,5 +1,5 @@
 -- The keys that each kind of table may have.
-use Rattle.std.specs.Prelude.{ℕ, Bool, true, ◌&&◌, not, List, [], ◌∷◌, Option, Some, None, map, option_map, take}
+use Rattle.std.specs.Prelude.{ℕ, Bool, true, ◌&&◌, not, List, [], ◌∷◌, Option, Some, None, map, option_map, take, drop}
 use Rattle.std.specs.List.{list_all, list_any}
 use Rattle.std.specs.Str.{bytes_eq}
 use Rattle.toml.specs.Data.{Data, Members, no_members, member, get_member}
@@ -21,9 +21,9 @@ value_at key members = get_member (key_word key) members
 abbrev pub values_at : List Key → Members → List (Option Data)
 values_at keys members = map (λ key. value_at key members) keys
 
--- the values that were found at the known keys
-abbrev pub found_values : Found → List (Option Data)
-found_values found = take found.count (map (option_map (λ x. view x.now)) found.values)
+-- the values that were found at the known keys, from the next one to be taken on
+abbrev pub values_left : Found → List (Option Data)
+values_left found = drop found.next (take found.count (map (option_map view) found.values))
 
 abbrev pub document_keys : List Key
 document_keys = Version ∷ Good ∷ Top ∷ Signals ∷ Modes ∷ Block ∷ []

@@ -19,7 +19,7 @@ impl FromValue for Name {
 
     ghost stands_for = { name_of };
 
-    fn read(_alloc: Global, value: &Value, at: Spot) -> Result<Name, ModelFault> {
+    fn read(_alloc: Global, value: Value, at: Spot) -> Result<Name, ModelFault> {
         match value {
             Value::String(text) => match Name::of(text.as_str()) {
                 Some(name) => Ok(name),
@@ -71,7 +71,7 @@ impl FromValue for End {
 
     ghost stands_for = { end_of };
 
-    fn read(_alloc: Global, value: &Value, at: Spot) -> Result<End, ModelFault> {
+    fn read(_alloc: Global, value: Value, at: Spot) -> Result<End, ModelFault> {
         match value {
             Value::String(text) => match end_in(text.as_str()) {
                 Some(end) => Ok(end),

@@ -21,7 +21,7 @@ pub fn read_model(alloc: Global, bytes: &[u8]) -> Result<Model, ModelFault>
     ensures refused { IfErr result (TellsFirst (text_breaches bytes.now)) }
 {
     match toml::table_from_slice(alloc, bytes) {
-        Ok(table) => document_in(alloc, &table),
+        Ok(table) => document_in(alloc, table),
         Err(error) => {
             if error.is_memory() {
                 Err(ModelFault::OutOfMemory)

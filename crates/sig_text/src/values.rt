@@ -35,18 +35,18 @@ pub trait FromValue: Drop {
     /// What a value without a breach stands for.
     ghost stands_for: { Data → Self };
 
-    fn read(alloc: Global, value: &Value, at: Spot) -> Result<Self, ModelFault>
-        ensures { Answers result (breaches at (view value.now)) (stands_for (view value.now)) };
+    fn read(alloc: Global, value: Value, at: Spot) -> Result<Self, ModelFault>
+        ensures { Answers result (breaches at (view value)) (stands_for (view value)) };
 }
 
 /// What was found at a key that has to be there.
 pub fn required<T: FromValue>(
     alloc: Global,
-    found: Option<&Value>,
+    found: Option<Value>,
     spot: Spot,
     key: Key,
 ) -> Result<T, ModelFault>
-    ensures { let there = option_map (λ x. view x.now) found.entry in
+    ensures { let there = option_map view found in
         Answers result (required_breaches T.breaches (at_key spot key) there) (value_or_empty T.stands_for there) }
 {
     match found {
@@ -58,11 +58,11 @@ pub fn required<T: FromValue>(
 /// What was found at a key that may be absent.
 pub fn optional<T: FromValue>(
     alloc: Global,
-    found: Option<&Value>,
+    found: Option<Value>,
     spot: Spot,
     key: Key,
 ) -> Result<Option<T>, ModelFault>
-    ensures { let there = option_map (λ x. view x.now) found.entry in
+    ensures { let there = option_map view found in
         Answers result (optional_breaches T.breaches (at_key spot key) there) (option_map T.stands_for there) }
 {
     match found {

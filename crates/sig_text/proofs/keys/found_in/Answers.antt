@@ -1,53 +1,46 @@
 use Rattle.std.proofs.Common.{◌≡◌, ◌&&◌, ◌≤◌, [], length, map, position, string_bytes, refl, sym, ap, ◌∙◌, arith, rules}
 use Rattle.std.proofs.lemmas.List.{length-map}
-use Rattle.std.proofs.lemmas.Bool.{false≢true}
+use Rattle.std.proofs.lemmas.Bool.{and_parts}
+use Rattle.std.specs.Prelude.{is_some}
 use Rattle.std.specs.Str.{bytes_eq}
 use Rattle.toml.specs.Data.{member}
 use Rattle.toml.specs.View.{view, members_view}
 use Rattle.sig_types.specs.Words.{key_word}
 use Rattle.sig_text.specs.Keys.{are_known, values_at}
-use Rattle.sig_text.proofs.Found.{and_false, and_true, begun, completed, ended, not_placed, placed_at, put_at, put_keeps, seen}
+use Rattle.sig_text.proofs.Found.{and_assoc, and_true, begun, completed, ended, known_at, placed_at, put_known, seen}
 use Rattle.sig_text.proofs.keys.found_in.Goals as goal
 
 pub loop-name-init : goal.loop-name-init
 loop-name-init c =
     let known = c.args.known.now in
-    let same : c.into_iter-name-iterator.result ≡ c.args.table.now.entries = search rules in (
+    let same : c.into_iter-name-iterator.result ≡ c.args.table.entries = search rules in (
       ap (λ es. are_known known (members_view es)) (sym same),
       refl,
       λ _. begun known 7 (members_view c.into_iter-name-iterator.result) c.requires.few ∙ ap (λ es. values_at known (members_view es)) same,
     )
 
-pub put-values-requires : goal.put-values-requires
-put-values-requires c =
-    let at = placed_at c.args.known.now c.as_str.result.now c.in-Some-place_of.place (sym c.place_of.ensures ∙ c.in-Some-place_of.is) in
-    omega (arith, at.2, c.loop-name.invariant.1, c.requires.few)
-
-pub loop-name-preserved-in-Some-place_of : goal.loop-name-preserved-in-Some-place_of
-loop-name-preserved-in-Some-place_of c =
+pub put-requires : goal.put-requires
+put-requires c i is =
     let known = c.args.known.now in
-    let name = string_bytes c.in-Some.name.now in
-    let rest = members_view c.next.new.self in
-    let step : members_view c.loop-name.name-iterator ≡ member name (view c.in-Some.value.now) rest = ap members_view c.in-Some.ensures.steps in
-    let at = placed_at known name c.in-Some-place_of.place (ap (λ t. position (λ key. bytes_eq (key_word key) t) known) (sym c.as_str.ensures.value) ∙ sym c.place_of.ensures ∙ c.in-Some-place_of.is) in (
-      c.loop-name.invariant.0 ∙ ap (λ ms. c.loop-name.no_other && are_known known ms) step ∙ ap (λ b. c.loop-name.no_other && (b && are_known known rest)) at.0,
-      search rules,
-      λ all. ap (λ found. completed known (map seen found) rest) (c.put-values.ensures ∙ ap (λ i. put_at c.loop-name.values i c.in-Some.value) at.1)
-          ∙ put_keeps known c.loop-name.values name c.in-Some.value rest c.requires.apart
-          ∙ ap (λ ms. completed known (map seen c.loop-name.values) ms) (sym step)
-          ∙ c.loop-name.invariant.2 all,
-    )
+    let named = ap (λ t. position (λ key. bytes_eq (key_word key) t) known) c.as_str.ensures.value in
+    let at = placed_at known (string_bytes c.in-Some.name) i (sym (c.place_of-place.ensures ∙ named) ∙ is) in
+    omega (arith, at.2, c.loop-name.invariant.1, c.requires.few)
 
 pub loop-name-preserved : goal.loop-name-preserved
 loop-name-preserved c =
     let known = c.args.known.now in
-    let name = string_bytes c.in-Some.name.now in
+    let name = string_bytes c.in-Some.name in
     let rest = members_view c.next.new.self in
-    let step : members_view c.loop-name.name-iterator ≡ member name (view c.in-Some.value.now) rest = ap members_view c.in-Some.ensures.steps in
-    let other = not_placed known name (ap (λ t. position (λ key. bytes_eq (key_word key) t) known) (sym c.as_str.ensures.value) ∙ sym c.place_of.ensures ∙ c.in-None-place_of.is) in (
-      c.loop-name.invariant.0 ∙ ap (λ ms. c.loop-name.no_other && are_known known ms) step ∙ ap (λ b. c.loop-name.no_other && (b && are_known known rest)) other ∙ and_false c.loop-name.no_other,
-      c.loop-name.invariant.1,
-      λ e. absurd (false≢true e),
+    let step : members_view c.loop-name.name-iterator ≡ member name (view c.in-Some.value) rest = ap members_view c.in-Some.ensures.steps in
+    let at = c.place_of-place.ensures ∙ ap (λ t. position (λ key. bytes_eq (key_word key) t) known) c.as_str.ensures.value in (
+      c.loop-name.invariant.0 ∙ ap (λ ms. c.loop-name.no_other && are_known known ms) step ∙ ap (λ b. c.loop-name.no_other && (b && are_known known rest)) (sym (known_at known name c.place_of-place.result at)) ∙ and_assoc c.loop-name.no_other (is_some c.place_of-place.result) (are_known known rest)
+          ∙ ap (λ b. (c.loop-name.no_other && b) && are_known known rest) (sym c.is_some-no_other.ensures),
+      search rules,
+      λ all.
+          let both = and_parts c.loop-name.no_other c.is_some-no_other.result all in
+          put_known known c.loop-name.values _ c.place_of-place.result name c.in-Some.value rest c.requires.apart at c.put.ensures (sym c.is_some-no_other.ensures ∙ both.1)
+          ∙ ap (λ ms. completed known (map seen c.loop-name.values) ms) (sym step)
+          ∙ c.loop-name.invariant.2 both.0,
     )
 
 pub returns-clause-no_other : goal.returns-clause-no_other
