@@ -3,8 +3,10 @@
 //! the start, and nothing that is done with it takes any: of several workers none can be left without. Where
 //! its lists or its numbers are full, sums are worked out the plain way: slower, with the same answers.
 //!
-//! Most groups have few tests that may be of least sum, and the groups that are entered first, which a walk
-//! passes most often, have the most. So one list of eight has room for all tests, and these are taken first.
+//! How much room is worth its memory depends on how many workers have a graph each. One alone enters all groups
+//! itself, so each list has room for all tests. Of several each enters some. Most groups have few tests that may be
+//! of least sum, and those that are entered first, which a walk passes most often, have the most: so one list of
+//! eight has room for all tests, and these are taken first.
 ghost use Rattle.std.specs.Prelude.{◌≡◌, ◌≤◌, [], length, vec_capacity, IfOk, OnOk};
 ghost use Rattle.seq_inst.specs.Instances.{problem_of};
 ghost use Rattle.seq_graph.specs.Numbered.{capacity, AreNumbersFor};
@@ -20,10 +22,15 @@ use std::alloc::{AllocError, Global};
 /// The room that is made for the groups that greedy's tree meets.
 const ROOM_FOR_GREEDY: u32 = 4096;
 
-/// The room of most lists: tests that are evaluated, and tests that wait.
+/// The room of short lists: tests that are evaluated, and tests that wait.
 const FEW_SPLITS: usize = 48;
 
 const FEW_WAITING: usize = 32;
+
+/// For so many groups beside one that is entered numbers are kept, where one worker has all the room, and at least.
+const MOST_NUMBERS: u32 = 24;
+
+const FEW_NUMBERS: u32 = 4;
 
 /// Makes room for so many more numbers, and holds room for so many groups. Where the memory is short there is
 /// as much room as before.
@@ -80,13 +87,33 @@ pub fn grow(alloc: Global, inst: &Instance, graph: &mut Graph) -> Result<(), All
     Ok(())
 }
 
-/// Lists for so many groups: one of eight has room for all tests.
-fn lists_for(alloc: Global, inst: &Instance, groups: u32) -> Result<Vec<Lists>, AllocError>
+/// How many of so many groups have lists with room for all tests.
+fn long_lists(groups: u32, workers: u32) -> u32
+    ensures { result ≤ groups }
+{
+    if workers == 1 {
+        return groups;
+    }
+    groups / 8
+}
+
+/// For how many groups beside one that is entered there is room for numbers.
+fn numbers_each(workers: u32) -> u32 {
+    (MOST_NUMBERS / workers.max(1)).max(FEW_NUMBERS)
+}
+
+/// Lists for so many groups, the short ones first.
+fn lists_for(
+    alloc: Global,
+    inst: &Instance,
+    groups: u32,
+    workers: u32,
+) -> Result<Vec<Lists>, AllocError>
     ensures { IfOk result (λ l. groups ≤ length l.items) }
 {
     let tests = inst.costs.len();
     let mut lists = Vec::with_capacity(alloc, groups as usize)?;
-    let few = groups - groups / 8;
+    let few = groups - long_lists(groups, workers);
     for group in 0..groups {
         let splits = if group < few {
             tests.min(FEW_SPLITS)
@@ -108,8 +135,14 @@ fn lists_for(alloc: Global, inst: &Instance, groups: u32) -> Result<Vec<Lists>, 
 
 impl Graph {
     /// Nothing is known yet. There is room for so many groups, and what is done with the graph takes no more
-    /// memory. With 256 tests it takes 3,200 bytes a group at most, and 5 MB beside.
-    pub fn with_room(alloc: Global, inst: &Instance, groups: u32) -> Result<Graph, AllocError>
+    /// memory. So many workers have such a graph each. With 256 tests that of one alone takes 11,000 bytes a group
+    /// at most, that of one of several 4,000, and each 5 MB beside.
+    pub fn with_room(
+        alloc: Global,
+        inst: &Instance,
+        groups: u32,
+        workers: u32,
+    ) -> Result<Graph, AllocError>
         ensures rows { IfOk result (λ g. g.rows.items ≡ []) }
         ensures known { IfOk result (IsGraphOf inst.now) }
         ensures sound { IfOk result (λ g. AreSound (problem_of inst.now) g.rows.items) }
@@ -118,7 +151,7 @@ impl Graph {
         let numbers = Numbers::new(alloc, inst)?;
         let rows = Vec::with_capacity(alloc, groups as usize)?;
         let nodes = Vec::with_capacity(alloc, groups as usize)?;
-        let lists = lists_for(alloc, inst, groups)?;
+        let lists = lists_for(alloc, inst, groups, workers)?;
         let mut graph = Graph {
             numbers,
             rows,
@@ -127,7 +160,9 @@ impl Graph {
             lists,
             growth: Growth::Fixed,
         };
-        let more = groups.saturating_mul(4).saturating_add(ROOM_FOR_GREEDY);
+        let more = groups
+            .saturating_mul(numbers_each(workers))
+            .saturating_add(ROOM_FOR_GREEDY);
         reserve_numbers(inst, &mut graph, more, groups)?;
         Ok(graph)
     }

@@ -95,9 +95,11 @@ fn numbers_while_there_is_room(rt: HostRuntime) -> Result<(), Fail> {
 fn room_for_three_groups(rt: HostRuntime) -> Result<(), Fail> {
     let alloc = rt.alloc();
     let inst = two_faults(alloc)?;
-    let graph = Graph::with_room(alloc, &inst, 3)?;
-    assert_eq!(rt; graph.rows.len(), 0);
-    assert_eq!(rt; graph.lists.len(), 3);
-    assert!(rt; graph.growth == Growth::Fixed);
+    for workers in [1, 2, 16] {
+        let graph = Graph::with_room(alloc, &inst, 3, workers)?;
+        assert_eq!(rt; graph.rows.len(), 0);
+        assert_eq!(rt; graph.lists.len(), 3);
+        assert!(rt; graph.growth == Growth::Fixed);
+    }
     Ok(())
 }
