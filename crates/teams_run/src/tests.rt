@@ -12,6 +12,8 @@ use std::test::Fail;
 use std::thread::Threads;
 use teams_words::{Action, Plan};
 
+mod faults;
+mod hostile;
 mod workers;
 
 fn words_of(alloc: Global, texts: &[&str]) -> Result<Vec<String>, AllocError> {
@@ -36,30 +38,6 @@ fn ran<R: Threads + Wait + Sync>(
         rt,
         alloc,
         words_of(alloc, words)?.as_slice(),
-        &mut shelf,
-        &mut sink,
-        &FreeGate,
-    );
-    let wrote = Vec::from_slice(alloc, sink.wrote())?;
-    Ok((status, wrote))
-}
-
-/// How `solve` ends on the two-part box with these failing reads and writes of at most ten bytes.
-fn faulty<R: Threads + Wait + Sync>(
-    rt: &R,
-    alloc: Global,
-    name: &str,
-    fail_reads: Vec<u64>,
-    fail_writes: Vec<u64>,
-) -> Result<(Status, Vec<u8>), AllocError> {
-    let mut shelf = MemShelf::new(alloc, fail_reads);
-    shelf.add("m.toml", BOX.as_bytes())?;
-    let mut sink = MemSink::new(alloc, 4096, 10, fail_writes)?;
-    let words = words_of(alloc, &["solve", name])?;
-    let status = run(
-        rt,
-        alloc,
-        words.as_slice(),
         &mut shelf,
         &mut sink,
         &FreeGate,
@@ -203,22 +181,6 @@ fn commands(rt: HostRuntime) -> Result<(), Fail> {
 }
 
 #[test]
-fn faults(rt: HostRuntime) -> Result<(), Fail> {
-    let alloc = rt.alloc();
-    let none = || Vec::new(alloc);
-    let (status, wrote) = faulty(&rt, alloc, "m.toml", none(), vec![in alloc; 2]?)?;
-    assert_eq!(rt; status.number(), 5);
-    assert_eq!(rt; wrote.as_slice(), b"teams repo".as_slice());
-    let (status, wrote) = faulty(&rt, alloc, "m.toml", vec![in alloc; 1]?, none())?;
-    assert_eq!(rt; status.number(), 4);
-    assert_eq!(rt; wrote.len(), 0);
-    let (status, wrote) = faulty(&rt, alloc, "other.toml", none(), none())?;
-    assert_eq!(rt; status.number(), 8);
-    assert_eq!(rt; wrote.len(), 0);
-    Ok(())
-}
-
-#[test]
 fn lengths(rt: HostRuntime) -> Result<(), Fail> {
     let alloc = rt.alloc();
     let mut text = Vec::from_slice(alloc, BOX.as_bytes())?;
@@ -264,54 +226,6 @@ fn coded(alloc: Global, parts: u64) -> Result<String, AllocError> {
         }
     }
     Ok(text)
-}
-
-/// Blocks in a row, of which each has so many uses of the one before, and the first has so many parts.
-fn stacked(alloc: Global, blocks: u64, uses: u64, parts: u64) -> Result<String, AllocError> {
-    let last = blocks.saturating_sub(1);
-    let mut text = format!(in alloc; "version = 1\ngood = 1\ntop = \"b{last}\"\n")?;
-    for block in 0..blocks {
-        let head = format!(in alloc; "[[block]]\nname = \"b{block}\"\n")?;
-        text.push_str(head.as_str())?;
-        if block == 0 {
-            for part in 0..parts {
-                let line = format!(in alloc; "[[block.part]]\nname = \"p{part}\"\n")?;
-                text.push_str(line.as_str())?;
-            }
-        } else {
-            let before = block - 1;
-            for used in 0..uses {
-                let line = format!(in alloc;
-                    "[[block.use]]\nname = \"u{used}\"\nblock = \"b{before}\"\n"
-                )?;
-                text.push_str(line.as_str())?;
-            }
-        }
-    }
-    Ok(text)
-}
-
-/// Unfolded models at their limits and past them; the largest would have more uses than a word can count.
-#[test]
-fn unfolded_sizes(rt: HostRuntime) -> Result<(), Fail> {
-    let alloc = rt.alloc();
-    for (blocks, uses, parts, line) in [
-        (17, 1, 1, "teams matrix 1\n"),
-        (18, 1, 1, "refused M13 at depth\n"),
-        (12, 2, 1, "teams matrix 1\n"),
-        (13, 2, 1, "refused M13 at uses\n"),
-        (17, 1000, 1, "refused M13 at uses\n"),
-        (2, 64, 64, "teams matrix 1\n"),
-        (2, 65, 64, "refused M13 at nodes\n"),
-    ] {
-        let text = stacked(alloc, blocks, uses, parts)?;
-        let (_status, wrote) = ran(&rt, alloc, &["matrix", "m.toml"], text.as_str().as_bytes())?;
-        assert!(rt;
-            wrote.as_slice().starts_with(line.as_bytes()),
-            "{blocks} {uses} {parts}"
-        );
-    }
-    Ok(())
 }
 
 /// Past 512 ambiguity groups nothing is solved, and the matrix and the figures still come.
