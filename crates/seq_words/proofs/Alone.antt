@@ -1,6 +1,6 @@
 -- No two places that a view knows have the same group: each is that of its row in the core, and there no group stands twice.
-use Rattle.std.proofs.Common.{◌≡◌, ◌≢◌, inl, inr, ℕ, zero, suc, ◌+◌, ◌*◌, ◌<◌, ◌≤◌, Bool, true, false, cond, List, [], ◌∷◌, length, get_or, refl, sym, ap, ◌∙◌, subst, arith}
-use Rattle.std.proofs.lemmas.Bool.{cases_Bool, true≢false}
+use Rattle.std.proofs.Common.{◌≡◌, ◌≢◌, inl, inr, ℕ, zero, suc, ◌+◌, ◌*◌, ◌<◌, Bool, true, false, cond, List, [], ◌∷◌, length, get_or, refl, sym, ap, ◌∙◌, subst, arith}
+use Rattle.std.proofs.lemmas.Bool.{true≢false}
 use mathlib.Core.Logic.{dite}
 use native.Mathlib.Decide.{dec_le}
 use Rattle.atomic_table.specs.Table.{State}
@@ -17,7 +17,7 @@ use Rattle.seq_core.specs.RowsOf.{rows_of}
 use Rattle.seq_core.specs.Settled.{row_at}
 use Rattle.seq_core.specs.Words.{classes_of}
 use Rattle.seq_words.specs.Layout.{span, row_held, core_of}
-use Rattle.seq_words.specs.Knowledge.{unknown, is_whole, seen_row, known_rows}
+use Rattle.seq_words.specs.Knowledge.{unknown, known, is_whole, seen_row, known_rows, AreAlone}
 use Rattle.seq_words.specs.Rule.{Stands, Kept}
 use Rattle.seq_words.proofs.Core.{same_list, span_at, length-core, core_at}
 use Rattle.seq_words.proofs.Views.{known_row, whole_parts}
@@ -76,3 +76,6 @@ module _ (inst : Instance) (limit : ℕ) (s : State (Unit {0}) View) (r : Kept i
         later,
       )
       go false n later = later
+
+  pub view-alone : (v : View) → ((q : ℕ) → Stands s.words q (known v q)) → AreAlone v
+  view-alone v stands = known-alone v.known 0 (λ q lt. let same : q ≡ 0 + q = omega arith in subst (λ n. Stands s.words n (known v q)) same (stands q))

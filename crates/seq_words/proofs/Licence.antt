@@ -9,7 +9,7 @@ use Rattle.seq_theory.specs.Bound.{step_sum}
 use Rattle.seq_theory.specs.Greedy.{greedy_cost}
 use Rattle.seq_theory.specs.Graph.{same_group, is_entered, step_value, sum_with}
 use Rattle.seq_theory.specs.Rows.{Row, no_value, groups_of, IsRow, AreDistinct, row_for, up_or, known_low, known_up, most_low, least_up}
-use Rattle.seq_words.specs.Laws.{IsBettered, AreBettered, KnowingMoreAllows}
+use Rattle.seq_words.specs.Laws.{AreBettered, KnowingMoreAllows}
 use Rattle.seq_theory.proofs.PartsRecursion.{least_of-mono}
 use Rattle.seq_theory.proofs.ValLaws.{least_of-values-le, least_of-first, values-at_least, sum_with-parts}
 use Rattle.seq_theory.proofs.RowLaws.{same_group-true, same_group-refl, or-left, or-right}

@@ -1,10 +1,12 @@
 -- The steps of a look at a published place, put together.
 use Rattle.std.proofs.Common.{◌≡◌, ℕ, ◌<◌, ◌≤◌, true, List, length, refl, sym, ap, ◌∙◌, subst, arith, length-set}
+use Rattle.seq_theory.specs.Graph.{IsReal}
+use Rattle.seq_core.specs.Words.{classes_of}
 use Rattle.seq_words.specs.declared.view.Told.{Told}
 use Rattle.seq_words.specs.declared.view.Known.{Known}
-use Rattle.seq_words.specs.Knowledge.{Covers, known, low_seen, up_seen, IsLow, IsUp, IsLowAt, IsUpAt}
+use Rattle.seq_words.specs.Knowledge.{problem_in, Covers, known, IsThere, low_seen, up_seen, IsLow, IsUp, IsLowAt, IsUpAt, IsRealAt}
 use Rattle.seq_words.specs.Plays.{hears, knows_bits, hears_low, hears_up}
-use Rattle.seq_words.specs.Seats.{Wording, Sitting, IsOf, LookedAt, sees}
+use Rattle.seq_words.specs.Seats.{Wording, Sitting, IsOf, LookedAt, IsSeenAs, sees}
 use Rattle.seq_words.proofs.Covering.{IsMore, known_here, of_knows, covers_knows}
 use Rattle.seq_words.proofs.ClosedRows.{covers_trans}
 
@@ -60,6 +62,27 @@ module _ (x0 x1 x2 x3 x4 : Sitting) (place : ℕ) (bits : List ℕ) (low up : �
 
   inside3 : place < length x3.view.known
   inside3 = let e = ap (λ (s : Sitting). length s.view.known) lows in let i = inside2 in omega (arith, length-set x2.view.known place (record (known x2.view place) { low = low }))
+
+  at4 : known x4.view place ≡ record (known x3.view place) { up = up }
+  at4 = ap (λ (s : Sitting). known s.view place) ups ∙ known_here x3.view place (record (known x3.view place) { up = up }) inside3
+
+  -- the place is known as it was read
+  pub looked-seen : length bits ≡ 8 → IsSeenAs place x4.view (record { 0 = bits }) low up
+  looked-seen whole =
+      let bits4 : (known x4.view place).bits ≡ bits = ap (λ (k : Known). k.bits) at4 ∙ bits3 in
+      let there4 : IsThere place x4.view = ap (λ (k : Known). k.there) at4 ∙ (ap (λ (k : Known). k.there) at3 ∙ (ap (λ (k : Known). k.there) at2 ∙ ap (λ (k : Known). k.there) at1)) in record {
+        whole = (there4, ap (λ (l : List ℕ). length l) bits4 ∙ whole);
+        bits = bits4;
+        classes = ap classes_of bits4;
+        low_is = ap (λ (k : Known). k.low) at4 ∙ ap (λ (k : Known). k.low) at3;
+        up_is = ap (λ (k : Known). k.up) at4;
+      }
+
+  -- its group is real
+  pub looked-real : length bits ≡ 8 → IsRealAt place x3.view → IsReal (problem_in x0.view.told) (classes_of bits)
+  looked-real whole real =
+      subst (λ (t : Told). IsReal (problem_in t) (classes_of bits)) told3
+      (subst (λ (b : List ℕ). IsReal (problem_in x3.view.told) (classes_of b)) bits3 (real (ap (λ (l : List ℕ). length l) bits3 ∙ whole)))
 
   -- the view that comes back knows all that was known
   pub looked-covers : (length (known x1.view place).bits ≡ 8 → bits ≡ (known x1.view place).bits) → low_seen place x2.view ≤ low → up ≤ up_seen place x3.view → Covers x4.view x0.view

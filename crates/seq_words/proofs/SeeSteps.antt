@@ -10,11 +10,12 @@ use Rattle.seq_inst.specs.declared.instance.Instance.{Instance}
 use Rattle.seq_words.specs.declared.view.Known.{Known}
 use Rattle.seq_words.specs.declared.view.Role.TheVariants.{Spent}
 use Rattle.seq_words.specs.Layout.{bits_at, state_at, low_at, up_at}
-use Rattle.seq_words.specs.Knowledge.{known, low_seen, up_seen, IsThere, IsLowAt, IsUpAt}
+use Rattle.seq_words.specs.Knowledge.{known, low_seen, up_seen, IsThere, IsLowAt, IsUpAt, IsRealAt, AreAlone}
 use Rattle.seq_words.specs.Rule.{Kept}
 use Rattle.seq_words.specs.Plays.{hears, hears_bits, hears_low, hears_up, finds_free, Finds, SeesBits, SeesLow, SeesUp}
 use Rattle.seq_words.proofs.Later.{later_same}
-use Rattle.seq_words.proofs.Views.{mine, there_below, right_in, knows_fits, looks, M, not_true, no_change}
+use Rattle.seq_words.proofs.Views.{mine, there_below, right_in, real_in, knows_fits, looks, M, not_true, no_change}
+use Rattle.seq_words.proofs.Alone.{view-alone}
 
 pub finds : (inst : Instance) (limit slots id : ℕ) (me : M) (p : ℕ) → me.0.role ≢ Spent
     → Allows (Kept inst limit) slots id me (state_at p) (λ n. n) (Finds (step slots (state_at p) 0 0 none) me)
@@ -41,20 +42,22 @@ finds inst limit slots id me p live s r _ at tiny =
         stands = fit.stands;
         hears = fit.hears;
       } me.1,
-      (λ q e. let same : p ≡ q = omega arith in subst (λ (j : ℕ). ((found ≡ 1) × (next ≡ (hears j v, me.1))) ⊎ ((found ≡ 0) × (next ≡ (finds_free j v, me.1)) × ((known v j).there ≡ false))) same
-          (inr (none_yet, refl, not_true (known v p).there (λ t. let o = st.there t in absurd (omega arith))))),
+      (λ q e. let same : p ≡ q = omega arith in subst (λ (j : ℕ). (((found ≡ 1) × (next ≡ (hears j v, me.1))) ⊎ ((found ≡ 0) × (next ≡ (finds_free j v, me.1)) × ((known v j).there ≡ false))) × AreAlone next.0) same
+          (inr (none_yet, refl, not_true (known v p).there (λ t. let o = st.there t in absurd (omega arith))), view-alone inst limit s r w fit.stands)),
     ))
     (λ h.
     let below : p < r.count = omega arith in
     let one : found ≡ 1 = r.published p below in
     let k : Known = record (known v p) { there = true } in
-    let next : M = (hears p v, me.1) in (
-      hears p v,
+    let w = hears p v in
+    let next : M = (w, me.1) in
+    let fits = knows_fits inst limit s r id v at ws p k (later_same ws) (no_change ws) live below (λ _. refl) (λ _. refl) record { there = λ _. one; few = st.few; first = λ _. refl; bits = st.bits; low = st.low; up = st.up; most = st.most } in (
+      w,
       keeps,
       tt,
-      looks inst limit s r id v at (state_at p) (hears p v) (λ e. omega arith)
-          (knows_fits inst limit s r id v at ws p k (later_same ws) (no_change ws) live below (λ _. refl) (λ _. refl) record { there = λ _. one; few = st.few; first = λ _. refl; bits = st.bits; low = st.low; up = st.up; most = st.most }) me.1,
-      (λ q e. let same : p ≡ q = omega arith in subst (λ (j : ℕ). ((found ≡ 1) × (next ≡ (hears j v, me.1))) ⊎ ((found ≡ 0) × (next ≡ (finds_free j v, me.1)) × ((known v j).there ≡ false))) same (inl (one, refl))),
+      looks inst limit s r id v at (state_at p) w (λ e. omega arith) fits me.1,
+      (λ q e. let same : p ≡ q = omega arith in subst (λ (j : ℕ). (((found ≡ 1) × (next ≡ (hears j v, me.1))) ⊎ ((found ≡ 0) × (next ≡ (finds_free j v, me.1)) × ((known v j).there ≡ false))) × AreAlone next.0) same
+          (inl (one, refl), view-alone inst limit s r w fits.stands)),
     ))
 
 pub sees_bits : (inst : Instance) (limit slots id : ℕ) (me : M) (p j : ℕ) → me.0.role ≢ Spent → IsThere p me.0 → j < 8 → j ≤ length (known me.0 p).bits
@@ -137,12 +140,13 @@ sees_up inst limit slots id me p live t s r _ at tiny =
     let below = there_below inst limit s r id v at p t in
     let st = fit.stands p in
     let k : Known = record (known v p) { up = found } in
-    let next : M = (hears_up p found v, me.1) in (
-      hears_up p found v,
+    let w = hears_up p found v in
+    let next : M = (w, me.1) in
+    let fits = knows_fits inst limit s r id v at ws p k (later_same ws) (no_change ws) live below (λ y. y) (λ _. refl) record { there = st.there; few = st.few; first = st.first; bits = st.bits; low = st.low; up = omega arith; most = r.small p } in (
+      w,
       keeps,
       tt,
-      looks inst limit s r id v at (up_at p) (hears_up p found v) (λ e. omega arith)
-          (knows_fits inst limit s r id v at ws p k (later_same ws) (no_change ws) live below (λ y. y) (λ _. refl) record { there = st.there; few = st.few; first = st.first; bits = st.bits; low = st.low; up = omega arith; most = r.small p }) me.1,
-      (λ q e. let same : p ≡ q = omega arith in subst (λ (j : ℕ). (next ≡ (hears_up j found v, me.1)) × (found ≤ up_seen j v) × IsUpAt j v found) same
-          (refl, st.up, (right_in inst limit s r id v at ws p live below r.sound refl).1)),
+      looks inst limit s r id v at (up_at p) w (λ e. omega arith) fits me.1,
+      (λ q e. let same : p ≡ q = omega arith in subst (λ (j : ℕ). (next ≡ (hears_up j found v, me.1)) × (found ≤ up_seen j v) × IsUpAt j v found × IsRealAt j v × AreAlone next.0) same
+          (refl, st.up, (right_in inst limit s r id v at ws p live below r.sound refl).1, real_in inst limit s r id v at p live below, view-alone inst limit s r w fits.stands)),
     )

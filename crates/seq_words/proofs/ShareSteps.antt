@@ -1,5 +1,5 @@
 -- Seats that are split and joined, and the load at which two seats' knowledge is put together.
-use Rattle.std.proofs.Common.{◌≡◌, ◌≢◌, ◌⊎◌, inl, inr, ⊎_elim, ℕ, zero, suc, ◌+◌, ◌<◌, ◌≤◌, Bool, true, false, ◌||◌, cond, ltb, true≢false, List, [], ◌∷◌, length, get_or, set, refl, sym, ap, ◌∙◌, subst, arith}
+use Rattle.std.proofs.Common.{◌≡◌, ◌≢◌, ◌⊎◌, inl, inr, ⊎_elim, ℕ, zero, suc, ◌<◌, ◌≤◌, Bool, true, false, ◌||◌, cond, ltb, true≢false, List, [], ◌∷◌, length, get_or, set, refl, sym, ap, ◌∙◌, subst, arith}
 use Rattle.std.proofs.lemmas.List.{get_or_past}
 use mathlib.Core.Logic.{dite}
 use Rattle.std.proofs.lemmas.Bool.Decides.{nat_tests}
@@ -19,7 +19,7 @@ use Rattle.seq_words.specs.Knowledge.{unknown, known, heard}
 use Rattle.seq_words.specs.Rule.{Stands, Fits, Kept}
 use Rattle.seq_words.specs.Plays.{as_worker, spent, both_bits, both_known, both_lists, beside, settled, Settles}
 use Rattle.seq_words.proofs.Core.{same_list}
-use Rattle.seq_words.proofs.Alone.{known-alone}
+use Rattle.seq_words.proofs.Alone.{view-alone}
 use Rattle.seq_words.proofs.Views.{mine, looks, M, not_true, there_inside}
 
 nothing_stands : (ws : List ℕ) (p : ℕ) → get_or ws (up_at p) 0 ≤ no_value → Stands ws p unknown
@@ -213,6 +213,6 @@ settles inst limit slots id me live s r _ at tiny =
           few_left = λ p. (fit.stands p).few;
           few_right = λ p. (fit.hears p).few;
         },
-        known-alone inst limit s r w.known 0 (λ q lt. let same : q ≡ 0 + q = omega arith in subst (λ n. Stands ws n (known w q)) same (stands q)),
+        view-alone inst limit s r w stands,
       ),
     )

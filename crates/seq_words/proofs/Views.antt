@@ -9,6 +9,7 @@ use native.Mathlib.Decide.{dec_le, ℕ_discrete}
 use lib.ListN.{get_elem?}
 use Rattle.atomic_table.specs.Table.{State, Me, keeps, stepped}
 use Rattle.atomic_table.proofs.Lists.{at_set}
+use Rattle.seq_theory.specs.Graph.{IsReal}
 use Rattle.seq_theory.specs.Rows.{no_value, IsRow, IsSound}
 use Rattle.seq_theory.specs.Rows.{Row as TheoryRow}
 use Rattle.seq_inst.specs.declared.instance.Instance.{Instance}
@@ -23,7 +24,7 @@ use Rattle.seq_core.specs.RowsOf.{row_of, rows_of}
 use Rattle.seq_core.specs.Settled.{row_at}
 use Rattle.seq_core.specs.Words.{classes_of}
 use Rattle.seq_words.specs.Layout.{bits_at, state_at, low_at, up_at, span, row_held, core_of}
-use Rattle.seq_words.specs.Knowledge.{told_of, unknown, known, heard, IsThere, is_whole, seen_row, known_rows, IsLow, IsUp, IsLowAt, IsUpAt}
+use Rattle.seq_words.specs.Knowledge.{told_of, problem_in, unknown, known, heard, IsThere, group_at, is_whole, seen_row, known_rows, IsLow, IsUp, IsLowAt, IsUpAt, IsRealAt}
 use Rattle.seq_words.specs.Rule.{Stands, Fits, Kept}
 use Rattle.seq_words.specs.Plays.{knows}
 use Rattle.seq_words.proofs.Core.{same_list, span_at, length-core, core_at}
@@ -79,7 +80,6 @@ module _ (inst : Instance) (limit : ℕ) (s : State (Unit {0}) View) (r : Kept i
   there_below p t = dite (dec_le r.count p) (λ h. let z = r.unpublished p h in let o = (mine.stands p).there t in absurd (omega arith)) (λ n. omega arith)
 
   -- a group that is known is that of its row
-  -- a group that is known is that of its row
   pub group_is : (p : ℕ) → length (known v p).bits ≡ 8 → (row_held s.words p).group.0 ≡ (known v p).bits
   group_is p e =
       let st = mine.stands p in
@@ -126,6 +126,14 @@ module _ (inst : Instance) (limit : ℕ) (s : State (Unit {0}) View) (r : Kept i
       λ e. subst (λ (z : Row). IsLow (told_of inst) (known v p).bits z.low × IsUp (told_of inst) (known v p).bits z.up) is
       (row-right inst limit (core_of ws r.count) p (known v p).bits b sound (ap (λ (z : Row). z.group.0) is ∙ (same ∙ group_is p e))) in
       ((λ e. subst (λ (t : Told). IsLow t (known v p).bits (row_held ws p).low) told (right e).0), (λ e. subst (λ (t : Told). IsUp t (known v p).bits (row_held ws p).up) told (right e).1))
+
+  -- the group of a place that the view knows is real, as that of its row is
+  pub real_in : (p : ℕ) → v.role ≢ Spent → p < r.count → IsRealAt p v
+  real_in p live h e =
+      let rows = core_of s.words r.count in
+      let real = r.sound.real (row_of (row_at rows p)) (row-among rows p (in_core p h)) in
+      let group : classes_of (row_at rows p).group.0 ≡ group_at p v = ap (λ (z : Row). classes_of z.group.0) (core_row p h) ∙ ap classes_of (group_is p e) in
+      subst (λ (t : Told). IsReal (problem_in t) (group_at p v)) (sym (mine.terms live).0) (subst (IsReal (problem_of inst)) group real)
 
   -- a step that publishes nothing
   pub goes : (i n : ℕ) (w : View) → i ≢ 1 → Later s.words (set s.words i n)

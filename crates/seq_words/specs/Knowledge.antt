@@ -2,6 +2,7 @@
 use Rattle.std.specs.Prelude.{◌≡◌, ℕ, ◌≤◌, Bool, true, false, cond, ◌&&◌, ◌==◌, List, [], ◌∷◌, length, slice_index_or}
 use Rattle.seq_theory.specs.Problem.{Problem}
 use Rattle.seq_theory.specs.Tree.{IsLeast}
+use Rattle.seq_theory.specs.Graph.{IsReal}
 use Rattle.seq_theory.specs.Rows.{no_value, most_low, least_up, groups_of, AreDistinct}
 use Rattle.seq_theory.specs.Rows.{Row as TheoryRow}
 use Rattle.seq_inst.specs.declared.instance.Instance.{Instance}
@@ -91,6 +92,10 @@ IsLowAt place v x = length (known v place).bits ≡ 8 → IsLow v.told (known v 
 
 abbrev pub IsUpAt : ℕ → View → ℕ → Type 0
 IsUpAt place v x = length (known v place).bits ≡ 8 → IsUp v.told (known v place).bits x
+
+-- the group of a place is real, where it is known
+abbrev pub IsRealAt : ℕ → View → Type 0
+IsRealAt place v = length (known v place).bits ≡ 8 → IsReal (problem_in v.told) (group_at place v)
 
 -- the first view knows all that the second knows
 pub record CoversAt (v w : View) (place : ℕ) : Type 0 where

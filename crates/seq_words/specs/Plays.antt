@@ -6,7 +6,7 @@ use Rattle.seq_words.specs.declared.view.Known.{Known}
 use Rattle.seq_words.specs.declared.view.View.{View}
 use Rattle.seq_words.specs.declared.view.Role.TheVariants.{Worker, Scribe, Spent}
 use Rattle.seq_words.specs.Layout.{bits_at, state_at, low_at, up_at}
-use Rattle.seq_words.specs.Knowledge.{unknown, known, low_seen, up_seen, IsLowAt, IsUpAt, AreAlone}
+use Rattle.seq_words.specs.Knowledge.{unknown, known, low_seen, up_seen, IsLowAt, IsUpAt, IsRealAt, AreAlone}
 
 -- the view with other knowledge of one place
 abbrev pub knows : ℕ → Known → View → View
@@ -62,10 +62,11 @@ Writes st m stored m' = m' ≡ (writes m.0, m.1)
 abbrev pub Publishes : At → Sat → ℕ → Sat → Type 0
 Publishes st m stored m' = (place : ℕ) → st.word ≡ state_at place → (m' ≡ (publishes place m.0, m.1)) × (known m.0 place ≡ unknown)
 
--- a state word: the place is published, or a further free find that was not known to be published
+-- a state word: the place is published, or a further free find that was not known to be published; and no two places are then known
+-- with the same group
 abbrev pub Finds : At → Sat → ℕ → Sat → Type 0
 Finds st m found m' = (place : ℕ) → st.word ≡ state_at place
-    → ((found ≡ 1) × (m' ≡ (hears place m.0, m.1))) ⊎ ((found ≡ 0) × (m' ≡ (finds_free place m.0, m.1)) × ((known m.0 place).there ≡ false))
+    → (((found ≡ 1) × (m' ≡ (hears place m.0, m.1))) ⊎ ((found ≡ 0) × (m' ≡ (finds_free place m.0, m.1)) × ((known m.0 place).there ≡ false))) × AreAlone m'.0
 
 -- a word of bits that was known, or the next one
 abbrev pub SeesBits : At → Sat → ℕ → Sat → Type 0
@@ -82,8 +83,10 @@ Caps st m found m' = (place : ℕ) → st.word ≡ up_at place → (m' ≡ (hear
 abbrev pub SeesLow : At → Sat → ℕ → Sat → Type 0
 SeesLow st m found m' = (place : ℕ) → st.word ≡ low_at place → (m' ≡ (hears_low place found m.0, m.1)) × (low_seen place m.0 ≤ found) × IsLowAt place m.0 found
 
+-- and an up word tells too that the group is real, and that no two places are known with the same group
 abbrev pub SeesUp : At → Sat → ℕ → Sat → Type 0
-SeesUp st m found m' = (place : ℕ) → st.word ≡ up_at place → (m' ≡ (hears_up place found m.0, m.1)) × (found ≤ up_seen place m.0) × IsUpAt place m.0 found
+SeesUp st m found m' = (place : ℕ) → st.word ≡ up_at place
+    → (m' ≡ (hears_up place found m.0, m.1)) × (found ≤ up_seen place m.0) × IsUpAt place m.0 found × IsRealAt place m.0 × AreAlone m'.0
 
 -- a copy in the role of a worker, writing nothing
 abbrev pub as_worker : View → View

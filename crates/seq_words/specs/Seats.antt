@@ -10,7 +10,7 @@ use Rattle.seq_words.specs.declared.view.View.{View}
 use Rattle.seq_words.specs.declared.view.Role.TheVariants.{Scribe}
 use Rattle.seq_words.specs.declared.view.Seen.{Seen}
 use Rattle.seq_words.specs.declared.view.Seen.TheVariants.{Free, There}
-use Rattle.seq_words.specs.Knowledge.{problem_in, known, low_seen, up_seen, IsLow, IsUp}
+use Rattle.seq_words.specs.Knowledge.{problem_in, known, IsKnown, group_at, low_seen, up_seen, IsLow, IsUp}
 use Rattle.seq_words.specs.Plays.{hears, hears_bits, knows_bits, hears_low, hears_up, finds_free}
 
 -- which words, of which instance, for how many groups
@@ -68,6 +68,24 @@ pub record LookedAt (place : ℕ) (before after : Sitting) (group : Group) (low 
 abbrev pub Looked : ℕ → Sitting → Sitting → Seen → Type 0
 Looked place before after Free = (after ≡ sees before (finds_free place before.view)) × ((known before.view place).there ≡ false)
 Looked place before after (There group low up) = LookedAt place before after group low up
+
+-- a view knows the place with this group, and these are the low and the up that it has seen there
+pub record IsSeenAs (place : ℕ) (v : View) (group : Group) (low up : ℕ) : Type 0 where
+  pub whole : IsKnown place v
+  pub bits : (known v place).bits ≡ group.0
+  pub classes : group_at place v ≡ members group
+  pub low_is : low_seen place v ≡ low
+  pub up_is : up_seen place v ≡ up
+
+-- the view knows a published place as a look answered it
+abbrev pub IsSeen : ℕ → View → Seen → Type 0
+IsSeen place v Free = Unit {0}
+IsSeen place v (There group low up) = IsSeenAs place v group low up
+
+-- the group that a look answered is real
+abbrev pub IsRealSeen : Told → Seen → Type 0
+IsRealSeen told Free = Unit {0}
+IsRealSeen told (There group low up) = IsReal (problem_in told) (members group)
 
 -- after so many words of bits of a place were read
 pub record Reading (words : Wording) (first : Sitting) (place : ℕ) (seat : Sitting) (bits : List ℕ) (part : ℕ) : Type 0 where

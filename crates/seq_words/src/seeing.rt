@@ -1,9 +1,10 @@
 //! Looking at a place. Its bits are read only after its state was seen as published, and they never
-//! change after that.
+//! change after that. What the rule says between steps of all groups that a seat knows, that they are
+//! real and that none stands twice, is told by the loads of the look itself: it costs no further step.
 ghost use Rattle.std.specs.Prelude.{◌≡◌, ◌≤◌, ◌<◌, false, length, slice_index, MatchBool};
-ghost use Rattle.seq_words.specs.Knowledge.{known, Covers, IsThere, HasGroup, low_seen, up_seen, IsLowAt, IsUpAt};
+ghost use Rattle.seq_words.specs.Knowledge.{known, Covers, IsThere, HasGroup, low_seen, up_seen, IsLowAt, IsUpAt, IsRealAt, AreAlone};
 ghost use Rattle.seq_words.specs.Plays.{knows_bits, hears, hears_low, hears_up, finds_free};
-ghost use Rattle.seq_words.specs.Seats.{IsOf, Looked, ReadsBits, sees};
+ghost use Rattle.seq_words.specs.Seats.{IsOf, Looked, IsSeen, IsRealSeen, ReadsBits, sees};
 
 use crate::layout::{bits_word, low_word, state_word, up_word};
 use crate::plays::{Find, SeeBits, SeeLow, SeeUp};
@@ -11,11 +12,13 @@ use crate::view::Seen;
 use crate::words::{Seat, Words};
 use seq_inst::Group;
 
-/// Whether the place is published.
+/// Whether the place is published. This load tells too that the seat knows no two places with the same
+/// group.
 fn find(words: &Words, seat: &mut Seat, place: u32) -> bool
     requires seat { IsOf words.now seat.old }
     requires room { place < words.now.limit }
-    ensures { MatchBool result (seat.new ≡ sees seat.old (hears place seat.old.view)) ((seat.new ≡ sees seat.old (finds_free place seat.old.view)) × ((known seat.old.view place).there ≡ false)) }
+    ensures learns { MatchBool result (seat.new ≡ sees seat.old (hears place seat.old.view)) ((seat.new ≡ sees seat.old (finds_free place seat.old.view)) × ((known seat.old.view place).there ≡ false)) }
+    ensures alone { AreAlone seat.new.view }
 {
     let found = words
         .table
@@ -67,12 +70,15 @@ fn look_low(words: &Words, seat: &mut Seat, place: u32) -> u64
         .load::<SeeLow>(&mut seat.seat, low_word(place))
 }
 
-/// Reads the up of a published place.
+/// Reads the up of a published place. This load tells too that its group is real, where the seat knows
+/// it, and that the seat knows no two places with the same group.
 fn look_up(words: &Words, seat: &mut Seat, place: u32) -> u64
     requires seat { IsOf words.now seat.old }
     requires there { IsThere place seat.old.view }
     ensures kept { result ≤ up_seen place seat.old.view }
     ensures right { IsUpAt place seat.old.view result }
+    ensures real { IsRealAt place seat.old.view }
+    ensures alone { AreAlone seat.new.view }
     ensures learns { seat.new ≡ sees seat.old (hears_up place result seat.old.view) }
 {
     words
@@ -82,11 +88,16 @@ fn look_up(words: &Words, seat: &mut Seat, place: u32) -> u64
 }
 
 /// Looks at a place. It is `Free` exactly where the state word that was loaded was 0, and never where
-/// the seat knows the place. One load for a free place, and eleven for another.
+/// the seat knows the place. The seat then knows a published place as it is answered, and its group is
+/// real; whatever is answered, the seat knows no two places with the same group. One load for a free
+/// place, and eleven for another.
 pub fn see(words: &Words, seat: &mut Seat, place: u32) -> Seen
     requires seat { IsOf words.now seat.old }
     requires room { place < words.now.limit }
     ensures looked { Looked place seat.old seat.new result }
+    ensures seen { IsSeen place seat.new.view result }
+    ensures real { IsRealSeen words.now.told result }
+    ensures alone { AreAlone seat.new.view }
     ensures of { IsOf words.now seat.new }
     ensures covers { Covers seat.new.view seat.old.view }
 {

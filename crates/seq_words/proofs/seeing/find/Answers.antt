@@ -17,4 +17,7 @@ pub invariant_of-seat : goal.invariant_of-seat
 invariant_of-seat c = ⊎_elim
     (λ t. (ap (λ (x : M). x.1) t.1 ∙ c.seat.invariant.0, ap (λ (x : M). x.0.role) t.1 ∙ c.seat.invariant.1))
     (λ t. (ap (λ (x : M). x.1) t.1 ∙ c.seat.invariant.0, ap (λ (x : M). x.0.role) t.1 ∙ c.seat.invariant.1))
-    (c.load-found.ensures.2 c.args.place c.state_word.ensures)
+    (c.load-found.ensures.2 c.args.place c.state_word.ensures).0
+
+pub returns-clause-alone : goal.returns-clause-alone
+returns-clause-alone c = (c.load-found.ensures.2 c.args.place c.state_word.ensures).1
