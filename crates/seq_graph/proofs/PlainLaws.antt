@@ -27,7 +27,7 @@ use Rattle.seq_graph.specs.declared.graph.Count.{Count}
 use Rattle.seq_graph.specs.declared.plain.Plain.{Plain}
 use Rattle.seq_graph.specs.Numbered.{Numbered}
 use Rattle.seq_graph.specs.Choice.{lesser_plain, LeastBelow}
-use Rattle.seq_graph.specs.Settling.{IsLeastUp, UpBelow}
+use Rattle.seq_graph.specs.Settling.{up_by, IsLeastUp, UpBelow}
 use Rattle.seq_graph.specs.Known.{AreRows, AreKnown, group_at}
 use Rattle.seq_graph.proofs.ChoiceLaws.{least_test-first, first_least-in}
 use Rattle.seq_graph.proofs.GreedyChoiceLaws.{splitting-in, first-pick-up}
@@ -140,35 +140,35 @@ value-small a None is small ne = absurd (ne is)
 value-small a (Some u) is small ne = let s = small u refl in omega arith
 
 module _ (p : Problem) (rows : List Row) (place : ℕ) where
-  pub up-none : (least : ℕ) → least ≡ greedy_cost p (members (group_at rows place)) → UpBelow p rows place 0 least
-  up-none least e = record {
-    no_less = (let first = least_of-first (greedy_cost p (members (group_at rows place))) (filter_map (step_value p (known_up p (rows_from rows)) (members (group_at rows place))) (splitting p (members (group_at rows place)))) in omega arith);
-    greedy = omega arith;
+  pub up-none : UpBelow p rows place 0 no_value
+  up-none = record {
+    no_less = least_of-first no_value (filter_map (step_value p (known_up p (rows_from rows)) (members (group_at rows place))) (splitting p (members (group_at rows place))));
+    word = omega arith;
     each = λ t n lt. absurd (let bad : ⊥ = omega arith in bad);
   }
 
-  pub up-more : (k least now u : ℕ) → UpBelow p rows place k least → greedy_cost p (members (group_at rows place)) ≤ greatest_cost → k < p.tests → splits p (members (group_at rows place)) k ≡ true
+  pub up-more : (k least now u : ℕ) → UpBelow p rows place k least → k < p.tests → splits p (members (group_at rows place)) k ≡ true
       → u ≡ value_or (step_value p (known_up p (rows_from rows)) (members (group_at rows place)) k) → now ≡ min least u → UpBelow p rows place (k + 1) now
-  up-more k least now u i fits there split is e = record {
+  up-more k least now u i there split is e = record {
     no_less = (let a = i.no_less in let b = above (step_value p (known_up p (rows_from rows)) (members (group_at rows place)) k) refl in omega arith);
-    greedy = (let g = i.greedy in omega arith);
+    word = (let w = i.word in omega arith);
     each = λ t n lt s v. elim (cases_lt t k) [
       | inl l ↦ (let a = i.each t n l s v in omega arith)
       | inr ge ↦ (let same : t ≡ k = omega arith in let at = is ∙ ap (λ m. value_or (step_value p (known_up p (rows_from rows)) (members (group_at rows place)) m)) (sym same) ∙ ap value_or v in omega arith)
     ];
   }
     where
-      above : (o : Option ℕ) → step_value p (known_up p (rows_from rows)) (members (group_at rows place)) k ≡ o → least_up p (rows_from rows) (members (group_at rows place)) ≤ u
-      above None at = let a = i.no_less in let g = i.greedy in let z = is ∙ ap value_or at in omega arith
+      above : (o : Option ℕ) → step_value p (known_up p (rows_from rows)) (members (group_at rows place)) k ≡ o → up_by p rows (members (group_at rows place)) (splitting p (members (group_at rows place))) ≤ u
+      above None at = let a = i.no_less in let w = i.word in let z = is ∙ ap value_or at in omega arith
       above (Some n) at =
-          let a = least_of-values-le (greedy_cost p (members (group_at rows place))) (step_value p (known_up p (rows_from rows)) (members (group_at rows place))) k n (splitting p (members (group_at rows place))) (splitting-in p (members (group_at rows place)) k there split) at in
+          let a = least_of-values-le no_value (step_value p (known_up p (rows_from rows)) (members (group_at rows place))) k n (splitting p (members (group_at rows place))) (splitting-in p (members (group_at rows place)) k there split) at in
           let z = is ∙ ap value_or at in
           omega arith
 
   pub up-same : (k least : ℕ) → UpBelow p rows place k least → splits p (members (group_at rows place)) k ≡ false → UpBelow p rows place (k + 1) least
   up-same k least i other = record {
     no_less = i.no_less;
-    greedy = i.greedy;
+    word = i.word;
     each = λ t n lt s v. elim (cases_lt t k) [
       | inl l ↦ i.each t n l s v
       | inr ge ↦ absurd (let same : t ≡ k = omega arith in true≢false (sym s ∙ ap (splits p (members (group_at rows place))) same ∙ other))
@@ -178,10 +178,10 @@ module _ (p : Problem) (rows : List Row) (place : ℕ) where
   pub up-all : (k least : ℕ) → k ≡ p.tests → UpBelow p rows place k least → IsLeastUp p rows place least
   up-all k least all i =
       let g = members (group_at rows place) in
-      let le = go (least_up p (rows_from rows) g) (least_value (greedy_cost p g) (step_value p (known_up p (rows_from rows)) g) (splitting p g)) in
+      let le = go (up_by p rows g (splitting p g)) (least_value no_value (step_value p (known_up p (rows_from rows)) g) (splitting p g)) in
       let ge = i.no_less in
       omega arith
     where
-      go : (n : ℕ) → IsLeastValue (greedy_cost p (members (group_at rows place))) (step_value p (known_up p (rows_from rows)) (members (group_at rows place))) (splitting p (members (group_at rows place))) n → least ≤ n
-      go n (is_first e) = let g = i.greedy in omega arith
+      go : (n : ℕ) → IsLeastValue no_value (step_value p (known_up p (rows_from rows)) (members (group_at rows place))) (splitting p (members (group_at rows place))) n → least ≤ n
+      go n (is_first e) = let w = i.word in omega arith
       go n (is_at t j e) = i.each t n (let lt = splitting-there p (members (group_at rows place)) t j in omega arith) (splitting-splits p (members (group_at rows place)) t j) e

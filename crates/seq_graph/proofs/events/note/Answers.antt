@@ -63,4 +63,4 @@ returns-clause-keeps c =
     let raised = c.raise.ensures.capacity in
     let capped = c.cap.ensures.capacity in
     let counts = c.narrow.ensures.capacity in
-    keeps-room _ _ long (omega arith) refl (omega arith) (omega arith) (omega arith) (λ le. omega arith)
+    keeps-room _ _ long (omega arith) refl (omega arith) (omega arith) (λ le. omega arith)
