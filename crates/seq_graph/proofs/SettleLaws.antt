@@ -35,6 +35,7 @@ use Rattle.seq_graph.specs.Looks.{NoneIsValued}
 use Rattle.seq_graph.specs.Settling.{evaluated_up, IsGreedyCap, IsLeastUp, IsSettledUp}
 use Rattle.seq_graph.proofs.KnownLaws.{row-real, row-within}
 use Rattle.seq_graph.proofs.RowLaws.{row-among, row-entered}
+use Rattle.seq_graph.proofs.EventLaws.{set-itself}
 use Rattle.seq_graph.proofs.SplitLaws.{kept-there}
 use Rattle.seq_graph.proofs.CapLaws.{below-greedy, cap-above}
 
@@ -159,8 +160,8 @@ settled-allowed inst rows kept place looked raise before up cap within allow (in
     record { low_allowed = allow.low_allowed; up_allowed = omega arith }
 
 -- a row whose up is at most greedy's cost needs no cap; and greedy's cost is a cap
-pub capped-already : (inst : Instance) (rows : List Row) (place : ℕ) → IsWithin (problem_of inst) (members (group_at rows place)) → (row_at rows place).up ≤ greedy_cost (problem_of inst) (members (group_at rows place)) → IsGreedyCap (problem_of inst) rows place no_value
-capped-already inst rows place within le =
+pub needs-no-cap : (inst : Instance) (rows : List Row) (place : ℕ) → IsWithin (problem_of inst) (members (group_at rows place)) → (row_at rows place).up ≤ greedy_cost (problem_of inst) (members (group_at rows place)) → IsGreedyCap (problem_of inst) rows place no_value
+needs-no-cap inst rows place within le =
     let p = problem_of inst in
     let below = below-greedy p (rows_from rows) (members (group_at rows place)) in
     let small = inst.stands.greedy_fits (group_at rows place) within in
@@ -194,11 +195,6 @@ closed-settled inst rows known sound k lt closed =
         ap (λ n. record { group = r.group; low = n; up = value_or (val p (groups_in rows) g) }) low_is
         ∙ ap (λ o. record { group = r.group; low = r.low; up = value_or o }) value
         ∙ ap (λ n. record { group = r.group; low = r.low; up = n }) up_is
-
-pub set-itself : (rows : List Row) (k : ℕ) → set rows k (row_at rows k) ≡ rows
-set-itself [] k = refl
-set-itself (r ∷ rest) zero = refl
-set-itself (r ∷ rest) (suc k) = ap (λ l. r ∷ l) (set-itself rest k)
 
 pub closed-set : (inst : Instance) (rows : List Row) → AreRows (problem_of inst) rows → AreSound (problem_of inst) rows → (k : ℕ) → k < length rows → IsClosedAt rows k → rows ≡ set rows k (settled_row (problem_of inst) (groups_in rows) (row_at rows k))
 closed-set inst rows known sound k lt closed = sym (ap (set rows k) (closed-settled inst rows known sound k lt closed) ∙ set-itself rows k)
