@@ -2,7 +2,7 @@
 -- groups. So the row that its tests tighten is settled, too: all its tests give its low; and of those that give its value one is
 -- evaluated, or else greedy costs no more, by whose cost the row is capped. For a test that was left out gives more than the row's up,
 -- which is no less than the value, and one that waits has a part without a value.
-use Rattle.std.proofs.Common.{◌≡◌, ℕ, zero, suc, ◌+◌, ◌*◌, ◌<◌, ◌≤◌, min, List, [], ◌∷◌, length, length-set, map, set, slice_get, slice_index, get_or-set_same, get_or-set_other, refl, sym, ap, ◌∙◌, arith, inl, inr, subst, Some, None}
+use Rattle.std.proofs.Common.{◌≡◌, ℕ, ◌*◌, ◌<◌, ◌≤◌, min, List, ◌∷◌, length, map, set, slice_get, sym, ap, ◌∙◌, arith, inl, inr, subst, Some, None}
 use Rattle.std.specs.Prelude.{Bool, true}
 use Rattle.std.specs.List.{filter_map}
 use Rattle.seq_theory.specs.Problem.{Problem, least_of, IsIn, IsWithin, pass_part, fail_part, fails, splitting, weight_of}
@@ -15,8 +15,6 @@ use Rattle.seq_theory.proofs.GreedyLaws.{part-within}
 use Rattle.seq_theory.proofs.PartsRecursion.{splitting-splits}
 use Rattle.seq_theory.proofs.LowLaws.{low-le-least}
 use Rattle.seq_theory.proofs.ValLaws.{val-entered, least-le-val, least_of-values-le, IsLeastValue, is_first, is_at, least_value, sum_with-parts}
-use Rattle.seq_theory.proofs.CountedLaws.{counted-length, counted-below}
-use Rattle.seq_inst.specs.declared.group.Group.{Group}
 use Rattle.seq_inst.specs.declared.instance.Instance.{Instance}
 use Rattle.seq_inst.specs.declared.outcome.Row.{Row}
 use Rattle.seq_inst.specs.Members.{members}
