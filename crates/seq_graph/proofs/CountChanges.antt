@@ -12,6 +12,7 @@ use Rattle.seq_theory.specs.Bound.{bound, step_sum}
 use Rattle.seq_theory.specs.Graph.{is_entered, IsReal, same_group}
 use Rattle.seq_theory.specs.Rows.{Row as PlainRow, no_value, groups_of, row_for, low_or, up_or, known_low}
 use Rattle.seq_theory.proofs.GreedyLaws.{bound-end}
+use Rattle.seq_huff.specs.Bounds.{greatest_cost}
 use Rattle.seq_inst.specs.declared.group.Group.{Group}
 use Rattle.seq_inst.specs.declared.instance.Instance.{Instance}
 use Rattle.seq_inst.specs.declared.outcome.Row.{Row}
@@ -23,13 +24,13 @@ use Rattle.seq_graph.specs.Numbered.{Numbered, HasNumber, AreNumbers, KeepsNumbe
 use Rattle.seq_core.specs.RowsOf.{row_of as row_from, rows_of as rows_from, place_of_group}
 use Rattle.seq_core.specs.Settled.{value_or}
 use Rattle.seq_graph.specs.declared.graph.Count.{Count}
-use Rattle.seq_graph.specs.Known.{AreRows, AreKept, AreKnown, count_of, no_row, row_at, group_at, raised_at, capped_at, narrowed_at, IsKeptBy}
+use Rattle.seq_graph.specs.Known.{AreRows, AreBounds, AreKept, AreKnown, count_of, no_row, row_at, group_at, raised_at, capped_at, narrowed_at, IsKeptBy}
 use Rattle.seq_graph.specs.Counts.{new_count, count_at}
 use Rattle.seq_graph.proofs.KnownLaws.{row-real, bound-le-known_low}
 use Rattle.seq_graph.proofs.PlaceLaws.{place-found, place-none, row-at-place, absent-row, absent-place, set-places, set-others, more-others, more-other-places, more-row, more-place}
 use Rattle.seq_graph.proofs.NumberLaws.{map-changed, map-later, number-once}
 use Rattle.seq_graph.proofs.CountLaws.{kept-read, count-at, countable, counted-is}
-use Rattle.seq_graph.proofs.EventLaws.{IsRefreshed, entered-known, length-Narrows, group-Narrows, up-Narrows}
+use Rattle.seq_graph.proofs.EventLaws.{IsRefreshed, learnt-rows, length-Narrows, group-Narrows, up-Narrows}
 use Rattle.seq_theory.proofs.RowLaws.{same_group-true, same_group-refl}
 use Rattle.seq_graph.specs.declared.node.Split.{Split}
 use Rattle.seq_graph.specs.Sums.{counted_sum, IsCountable}
@@ -68,7 +69,7 @@ kept-narrows p v rows now r s k e rises falls kept = subst (λ (g : Group). IsKe
   number = kept.number;
   weight = kept.weight;
   bound_is = kept.bound_is;
-  greedy = kept.greedy;
+  capped = λ e. (let a = kept.capped e in omega arith);
   tests = tests-rise p (members r.group) k.splits.items k.waiting.items v (step_sum p (known_low p (rows_from rows)) (members r.group)) (step_sum p (known_low p (rows_from now)) (members r.group)) (min r.up k.most) (min s.up k.most) kept.tests
       (λ t. let a = rises (pass_part p t (members r.group)) in let b = rises (fail_part p t (members r.group)) in omega arith) (omega arith);
 })
@@ -79,7 +80,7 @@ kept-keeps p old new rows r k keeps h = record {
   number = keeps (members r.group) k.number h.number;
   weight = h.weight;
   bound_is = h.bound_is;
-  greedy = h.greedy;
+  capped = h.capped;
   tests = tests-keep p (members r.group) k.splits.items k.waiting.items old new (step_sum p (known_low p (rows_from rows)) (members r.group)) (min r.up k.most) keeps h.tests;
 }
 
@@ -92,14 +93,14 @@ numbers-known p old new rows kept counts known numbers keeps same = record {
   counts_are = known.counts_are ∙ ap (map (count_of p rows)) (sym same);
 }
 
--- at first those are left out that greedy is below, and this is a cap of the new row. Lows are no less than bounds
-kept-whole : (p : Problem) (v : Numbered) (rows : List Row) (r : Row) (k : Node) → AreRows p rows → r.up ≤ greedy_cost p (members r.group) → IsKeptOf p v (members r.group) k → IsKeptBy p v rows r k
-kept-whole p v rows r k known falls h = record {
+-- what is kept of a group at first is right of its new row. Lows are no less than bounds
+kept-whole : (p : Problem) (v : Numbered) (rows : List Row) (r : Row) (k : Node) → AreRows p rows → IsKeptOf p v (members r.group) k → IsKeptBy p v rows r k
+kept-whole p v rows r k known h = record {
   number = h.number;
   weight = h.weight;
   bound_is = h.bound;
-  greedy = h.greedy;
-  tests = tests-rise p (members r.group) k.splits.items k.waiting.items v (step_sum p (bound p) (members r.group)) (step_sum p (known_low p (rows_from rows)) (members r.group)) (min (greedy_cost p (members r.group)) k.most) (min r.up k.most) h.tests
+  capped = λ e. absurd (true≢false (sym e ∙ h.uncapped));
+  tests = tests-rise p (members r.group) k.splits.items k.waiting.items v (step_sum p (bound p) (members r.group)) (step_sum p (known_low p (rows_from rows)) (members r.group)) k.most (min r.up k.most) h.tests
       (λ t. let a = bound-le-known_low p rows known (pass_part p t (members r.group)) in let b = bound-le-known_low p rows known (fail_part p t (members r.group)) in omega arith) (omega arith);
 }
 
@@ -228,6 +229,11 @@ some-there [] i lt = absurd (let bad : ⊥ = omega arith in bad)
 some-there (x ∷ xs) zero lt = (x, refl)
 some-there (x ∷ xs) (suc i) lt = some-there xs i (omega arith)
 
+with-bounds : (low up b place n : ℕ) (c other : Count) → c.low ≡ b → place ≡ n → other ≡ record { low = max low b; up = up; place = Some n } → record { low = max c.low low; up = up; place = Some place } ≡ other
+with-bounds low up b place n c other is at e =
+    let either : max c.low low ≡ max low b = omega arith in
+    ap (λ m. record { low = m; up = up; place = Some place }) either ∙ ap (λ m. record { low = max low b; up = up; place = Some m }) at ∙ sym e
+
 module _ (inst : Instance) (old new : Numbered) (rows : List Row) (kept : List Node) (counts : List Count) (known : AreKnown (problem_of inst) old rows kept counts) (numbers : AreNumbers (problem_of inst) new) (keeps : KeepsNumbers old new) where
   -- a group with a later number has no row
   later-none : (h : List ℕ) (n : ℕ) → length old.groups ≤ n → HasNumber new h n → row_for (rows_from rows) h ≡ None
@@ -256,44 +262,52 @@ module _ (inst : Instance) (old new : Numbered) (rows : List Row) (kept : List N
       e ∙ ap (λ n. counts ++ map (new_count p) (drop n new.groups)) l ∙ ap (λ c. c ++ map (new_count p) (drop (length old.groups) new.groups)) known.counts_are
       ∙ map-later f (new_count p) old.groups new.groups keeps (λ h n le has. count-none p rows h (later-none h n le has))
 
-  pub added-known : (g : Group) (k : Node) (more : List Count) (place : ℕ) → IsReal (problem_of inst) (members g) → is_entered (groups_of (rows_from rows)) (members g) ≡ false
+  -- it counts the row's bounds, and its low is no less than its bound
+  pub learnt-known : (g : Group) (k : Node) (more : List Count) (place low up : ℕ) → IsReal (problem_of inst) (members g) → is_entered (groups_of (rows_from rows)) (members g) ≡ false → AreBounds (problem_of inst) (members g) low up → up ≤ greatest_cost
       → IsKeptOf (problem_of inst) new (members g) k → more ≡ counts ++ map (new_count (problem_of inst)) (drop (length counts) new.groups) → place ≡ length rows
-      → AreKnown (problem_of inst) new (rows ++ record { group = g; low = 0; up = k.greedy } ∷ []) (kept ++ k ∷ []) (set more k.number (record (count_at more k.number) { up = k.greedy; place = Some place }))
-  added-known g k more place real absent of grown place_is =
+      → AreKnown (problem_of inst) new (rows ++ record { group = g; low = low; up = up } ∷ []) (kept ++ k ∷ []) (set more k.number (record { low = max (count_at more k.number).low low; up = up; place = Some place }))
+  learnt-known g k more place low up real absent right small of grown place_is =
       let p = problem_of inst in
       let f = count_of p rows in
-      let row : Row = record { group = g; low = 0; up = k.greedy } in
+      let row : Row = record { group = g; low = low; up = up } in
       let now = count_of p (rows ++ row ∷ []) in
       let l = known.kept_are.as_many in
       let counted = counts-grown more grown in
       let none = absent-row rows (members g) absent in
       let here : count_at more k.number ≡ f (members g) = ap (λ c. count_at c k.number) counted ∙ count-at f new.groups k.number (members g) of.number in
       let old_is : f (members g) ≡ new_count p (members g) = count-none p rows (members g) none in
-      let new_is : now (members g) ≡ record { low = max 0 (bound p (members g)); up = k.greedy; place = Some (length rows) } = count-row p (rows ++ row ∷ []) (members g) (row_from row) (Some (length rows)) real.goals (more-row rows row absent) (more-place rows row absent) in
+      let new_is : now (members g) ≡ record { low = max low (bound p (members g)); up = up; place = Some (length rows) } = count-row p (rows ++ row ∷ []) (members g) (row_from row) (Some (length rows)) real.goals (more-row rows row absent) (more-place rows row absent) in
       let others = λ (h : List ℕ) (ne : h ≢ members g). count-same p (rows ++ row ∷ []) rows h (more-others rows row h ne) (more-other-places rows row h ne) in
-      let larger : bound p (members g) ≡ max 0 (bound p (members g)) = omega arith in
-      let placed : record (count_at more k.number) { up = k.greedy; place = Some place } ≡ now (members g) =
-      ap (λ (c : Count). record c { up = k.greedy; place = Some place }) (here ∙ old_is) ∙ ap (λ n. record { low = bound p (members g); up = k.greedy; place = Some n }) place_is ∙ ap (λ n. record { low = n; up = k.greedy; place = Some (length rows) }) larger ∙ sym new_is in
-      let entered = entered-known inst rows g k.greedy real absent of.greedy known.rows_are in
+      let placed = with-bounds low up (bound p (members g)) place (length rows) (count_at more k.number) (now (members g)) (ap (λ (c : Count). c.low) (here ∙ old_is)) place_is new_is in
+      let learnt = learnt-rows inst rows g low up real absent right small known.rows_are in
       record {
-        rows_are = entered;
+        rows_are = learnt;
         numbers_are = numbers;
         kept_are = record {
           as_many = (let a = length-append kept (k ∷ []) in let b = length-append rows (row ∷ []) in omega arith);
           each = kept-more (λ r x. IsKeptBy p new (rows ++ row ∷ []) r x) rows kept row k l
               (λ q x e. kept-narrows p new rows (rows ++ row ∷ []) (row_at rows q) (row_at rows q) x refl
               (low-cases p rows (rows ++ row ∷ []) (members g) others (let a = ap (λ (c : Count). c.low) old_is in let b = ap (λ (c : Count). c.low) new_is in omega arith)) (omega arith) (kept-keeps p old new rows (row_at rows q) x keeps (known.kept_are.each q x e)))
-              (kept-whole p new (rows ++ row ∷ []) row k entered (let e = of.greedy in omega arith) of);
+              (kept-whole p new (rows ++ row ∷ []) row k learnt of);
         };
         counts_are = ap (λ c. set more k.number c) placed ∙ ap (λ c. set c k.number (now (members g))) counted
             ∙ sym (map-changed f now new.groups k.number (members g) numbers.distinct of.number others);
       }
 
+  -- nothing but the numbers and their counts changes
+  pub grown-known : (more : List Count) → more ≡ counts ++ map (new_count (problem_of inst)) (drop (length counts) new.groups) → AreKnown (problem_of inst) new rows kept more
+  grown-known more grown = record {
+    rows_are = known.rows_are;
+    numbers_are = numbers;
+    kept_are = record { as_many = known.kept_are.as_many; each = λ q x e. kept-keeps (problem_of inst) old new rows (row_at rows q) x keeps (known.kept_are.each q x e) };
+    counts_are = counts-grown more grown;
+  }
+
   -- a test of a group is evaluated
-  pub evaluated-known : (place : ℕ) (k other : Node) (more : List Count) → place < length rows → k ≡ get_or kept place k → other.number ≡ k.number → other.weight ≡ k.weight → other.bound ≡ k.bound → other.greedy ≡ k.greedy → other.most ≡ k.most
+  pub evaluated-known : (place : ℕ) (k other : Node) (more : List Count) → place < length rows → k ≡ get_or kept place k → other.number ≡ k.number → other.weight ≡ k.weight → other.bound ≡ k.bound → other.capped ≡ k.capped → other.most ≡ k.most
       → KeepsTests (problem_of inst) old new (members (group_at rows place)) k other → more ≡ counts ++ map (new_count (problem_of inst)) (drop (length counts) new.groups)
       → AreKnown (problem_of inst) new rows (set kept place other) more
-  evaluated-known place k other more lt read en ew eb eg em tests grown =
+  evaluated-known place k other more lt read en ew eb ec em tests grown =
       let p = problem_of inst in
       let r = row_at rows place in
       let of = kept-read p old rows kept counts known place k lt read in
@@ -304,7 +318,7 @@ module _ (inst : Instance) (old new : Numbered) (rows : List Row) (kept : List N
           number = subst (HasNumber new (members r.group)) (sym en) (keeps (members r.group) k.number of.number);
           weight = ew ∙ of.weight;
           bound_is = eb ∙ of.bound_is;
-          greedy = eg ∙ of.greedy;
+          capped = λ e. of.capped (sym ec ∙ e);
           tests = subst (λ n. AreTestsOf p new (members r.group) (step_sum p (known_low p (rows_from rows)) (members r.group)) (min r.up n) other.splits.items other.waiting.items) (sym em)
               (tests (step_sum p (known_low p (rows_from rows)) (members r.group)) (min r.up k.most) of.tests);
         });
@@ -331,9 +345,9 @@ module _ (inst : Instance) (v : Numbered) (rows : List Row) (kept : List Node) (
     counts_are = known.counts_are;
   }
 
-  pub thinned-known : (prune : Node) (up : ℕ) → up ≡ (row_at rows place).up → prune.number ≡ k.number → prune.weight ≡ k.weight → prune.bound ≡ k.bound → prune.greedy ≡ k.greedy → prune.most ≡ k.most
+  pub thinned-known : (prune : Node) (up : ℕ) → up ≡ (row_at rows place).up → prune.number ≡ k.number → prune.weight ≡ k.weight → prune.bound ≡ k.bound → prune.capped ≡ k.capped → prune.most ≡ k.most
       → prune.splits.items ≡ filter (λ s. nat_le (counted_sum inst.costs.items k.weight counts s) up) k.splits.items → prune.waiting.items ≡ filter (λ w. nat_le w.least up) k.waiting.items → AreKnown (problem_of inst) v rows (set kept place prune) counts
-  thinned-known prune up up_is en ew eb eg em splits_are waiting_are =
+  thinned-known prune up up_is en ew eb ec em splits_are waiting_are =
       let p = problem_of inst in
       let r = row_at rows place in
       let g = members r.group in
@@ -343,16 +357,49 @@ module _ (inst : Instance) (v : Numbered) (rows : List Row) (kept : List Node) (
         number = subst (HasNumber v g) (sym en) of-row.number;
         weight = ew ∙ of-row.weight;
         bound_is = eb ∙ of-row.bound_is;
-        greedy = eg ∙ of-row.greedy;
+        capped = λ e. of-row.capped (sym ec ∙ e);
         tests = subst (λ n. AreTestsOf p v g f (min r.up n) prune.splits.items prune.waiting.items) (sym em) (subst (λ n. AreTestsOf p v g f (min n k.most) prune.splits.items prune.waiting.items) up_is
             (tests-left p v g f k.most up k.splits.items prune.splits.items k.waiting.items prune.waiting.items stays (subst (λ n. AreTestsOf p v g f (min n k.most) k.splits.items k.waiting.items) (sym up_is) of-row.tests) (λ i d h.
             let at = split-at p v rows r k k.splits.items of-row refl i d h in
             ap (λ n. nat_le n up) (counted-is inst v rows kept counts known place lt (get_or k.splits.items i d) k at.parts read)) splits_are waiting_are));
       })
 
+  -- the row's up is at most greedy's cost
+  pub flagged-known : (flag : Node) → (row_at rows place).up ≤ greedy_cost (problem_of inst) (members (group_at rows place)) → flag.number ≡ k.number → flag.weight ≡ k.weight → flag.bound ≡ k.bound → flag.most ≡ k.most → flag.splits.items ≡ k.splits.items → flag.waiting.items ≡ k.waiting.items
+      → AreKnown (problem_of inst) v rows (set kept place flag) counts
+  flagged-known flag le en ew eb em splits_are waiting_are =
+      let p = problem_of inst in
+      let r = row_at rows place in
+      let g = members r.group in
+      let f = step_sum p (known_low p (rows_from rows)) g in
+      replaced flag (record {
+        number = subst (HasNumber v g) (sym en) of-row.number;
+        weight = ew ∙ of-row.weight;
+        bound_is = eb ∙ of-row.bound_is;
+        capped = λ e. le;
+        tests = subst (λ n. AreTestsOf p v g f (min r.up n) flag.splits.items flag.waiting.items) (sym em) (subst (λ l. AreTestsOf p v g f (min r.up k.most) l flag.waiting.items) (sym splits_are) (subst (AreTestsOf p v g f (min r.up k.most) k.splits.items) (sym waiting_are) of-row.tests));
+      })
+
+  -- its tests are listed with numbers that are at most their sums over bounds
+  pub listed-known : (fresh : Node) → fresh.number ≡ k.number → fresh.weight ≡ k.weight → fresh.bound ≡ k.bound → fresh.capped ≡ k.capped
+      → AreTestsOf (problem_of inst) v (members (group_at rows place)) (step_sum (problem_of inst) (bound (problem_of inst)) (members (group_at rows place))) (min (row_at rows place).up fresh.most) fresh.splits.items fresh.waiting.items
+      → AreKnown (problem_of inst) v rows (set kept place fresh) counts
+  listed-known fresh en ew eb ec tests =
+      let p = problem_of inst in
+      let r = row_at rows place in
+      let g = members r.group in
+      replaced fresh (record {
+        number = subst (HasNumber v g) (sym en) of-row.number;
+        weight = ew ∙ of-row.weight;
+        bound_is = eb ∙ of-row.bound_is;
+        capped = λ e. of-row.capped (sym ec ∙ e);
+        tests = tests-rise p g fresh.splits.items fresh.waiting.items v (step_sum p (bound p) g) (step_sum p (known_low p (rows_from rows)) g) (min r.up fresh.most) (min r.up fresh.most) tests
+            (λ t. let a = bound-le-known_low p rows known.rows_are (pass_part p t g) in let b = bound-le-known_low p rows known.rows_are (fail_part p t g) in omega arith) (omega arith);
+      })
+
   -- the same tests in lists of less room
-  pub fitted-known : (fit : Node) → fit.number ≡ k.number → fit.weight ≡ k.weight → fit.bound ≡ k.bound → fit.greedy ≡ k.greedy → fit.most ≡ k.most → fit.splits.items ≡ k.splits.items → fit.waiting.items ≡ k.waiting.items → AreKnown (problem_of inst) v rows (set kept place fit) counts
-  fitted-known fit en ew eb eg em splits_are waiting_are =
+  pub fitted-known : (fit : Node) → fit.number ≡ k.number → fit.weight ≡ k.weight → fit.bound ≡ k.bound → fit.capped ≡ k.capped → fit.most ≡ k.most → fit.splits.items ≡ k.splits.items → fit.waiting.items ≡ k.waiting.items → AreKnown (problem_of inst) v rows (set kept place fit) counts
+  fitted-known fit en ew eb ec em splits_are waiting_are =
       let p = problem_of inst in
       let r = row_at rows place in
       let g = members r.group in
@@ -361,6 +408,6 @@ module _ (inst : Instance) (v : Numbered) (rows : List Row) (kept : List Node) (
         number = subst (HasNumber v g) (sym en) of-row.number;
         weight = ew ∙ of-row.weight;
         bound_is = eb ∙ of-row.bound_is;
-        greedy = eg ∙ of-row.greedy;
+        capped = λ e. of-row.capped (sym ec ∙ e);
         tests = subst (λ n. AreTestsOf p v g f (min r.up n) fit.splits.items fit.waiting.items) (sym em) (subst (λ l. AreTestsOf p v g f (min r.up k.most) l fit.waiting.items) (sym splits_are) (subst (AreTestsOf p v g f (min r.up k.most) k.splits.items) (sym waiting_are) of-row.tests));
       })

@@ -6,7 +6,7 @@ use Rattle.std.proofs.lemmas.Bool.{cases_Bool, true≢false, or_parts}
 use Rattle.std.proofs.lemmas.List.{get_or-set_same, set-set, map-append}
 use Rattle.std.proofs.lemmas.List.Elements.{All-set, All-push}
 use Rattle.std.proofs.Math.ListN.{length-set}
-use Rattle.seq_theory.specs.Problem.{Problem, is_end, splitting, least_of, pass_part, fail_part, weight_of}
+use Rattle.seq_theory.specs.Problem.{Problem, IsWithin, is_end, splitting, least_of, pass_part, fail_part, weight_of}
 use Rattle.seq_theory.specs.Greedy.{greedy_cost}
 use Rattle.seq_theory.specs.Graph.{same_group, is_entered, step_value, sum_with, IsReal}
 use Rattle.seq_theory.specs.Rows.{Row as PlainRow, no_value, groups_of, IsSound, row_for, up_or, known_up, least_up, enter, raise, cap, after, change_at, AreDistinct}
@@ -14,6 +14,7 @@ use Rattle.seq_theory.proofs.LeastLaws.{least, IsLeast-least, IsLeast-one}
 use Rattle.seq_theory.proofs.GreedyLaws.{least-le-greedy}
 use Rattle.seq_theory.proofs.RowLaws.{events-sound, wanted-within, same_group-true, same_group-refl}
 use Rattle.seq_theory.proofs.PartsRecursion.{filter_map-agree}
+use Rattle.seq_huff.specs.Bounds.{greatest_cost}
 use Rattle.seq_inst.specs.declared.group.Group.{Group}
 use Rattle.seq_inst.specs.declared.instance.Instance.{Instance}
 use Rattle.seq_inst.specs.declared.outcome.Row.{Row}
@@ -247,29 +248,26 @@ groups-last : (rows : List Row) (r : Row) → groups_in (rows ++ r ∷ []) ≡ g
 groups-last [] r = refl
 groups-last (x ∷ rest) r = ap (λ (l : List (List ℕ)). members x.group ∷ l) (groups-last rest r)
 
+-- a new row with bounds that are true
+pub learnt-rows : (inst : Instance) (rows : List Row) (g : Group) (low up : ℕ) → IsReal (problem_of inst) (members g) → is_entered (groups_of (rows_from rows)) (members g) ≡ false → AreBounds (problem_of inst) (members g) low up → up ≤ greatest_cost
+    → AreRows (problem_of inst) rows → AreRows (problem_of inst) (rows ++ record { group = g; low = low; up = up } ∷ [])
+learnt-rows inst rows g low up real new right small known =
+    let row : Row = record { group = g; low = low; up = up } in
+    record {
+      distinct = subst AreDistinct (sym (groups-last rows row)) (distinct-last (members g) (groups_in rows) known.distinct new);
+      each = All-push (λ (r : Row). IsBounded (problem_of inst) (row_from r)) rows row known.each (record { real = real; bounds = right; small = small });
+    }
+
+-- each up from greedy's cost on bounds the least cost
+pub greedy-right : (inst : Instance) (group : List ℕ) (up : ℕ) → IsWithin (problem_of inst) group → greedy_cost (problem_of inst) group ≤ up → AreBounds (problem_of inst) group 0 up
+greedy-right inst group up within ge n is =
+    let p = problem_of inst in
+    let e = IsLeast-one p group n (least p group) is (IsLeast-least p group inst.valid.told within) in
+    let le = least-le-greedy p group inst.valid.told within in
+    (omega arith, omega arith)
+
 -- a group that is entered is capped at once by what greedy costs
 module _ (inst : Instance) (rows : List Row) (g : Group) (up : ℕ) (real : IsReal (problem_of inst) (members g)) (new : is_entered (groups_of (rows_from rows)) (members g) ≡ false) (up_is : up ≡ greedy_cost (problem_of inst) (members g)) where
-  entered-bounded : IsBounded (problem_of inst) (row_from (record { group = g; low = 0; up = up }))
-  entered-bounded =
-      let p = problem_of inst in
-      let within = wanted-within p (members g) real.wanted in
-      record {
-        real = real;
-        bounds = λ n is.
-            let e = IsLeast-one p (members g) n (least p (members g)) is (IsLeast-least p (members g) inst.valid.told within) in
-            let le = least-le-greedy p (members g) inst.valid.told within in
-            (omega arith, omega arith);
-        small = (let s = inst.stands.greedy_fits g within in omega arith);
-      }
-
-  pub entered-known : AreRows (problem_of inst) rows → AreRows (problem_of inst) (rows ++ record { group = g; low = 0; up = up } ∷ [])
-  entered-known known =
-      let row : Row = record { group = g; low = 0; up = up } in
-      record {
-        distinct = subst AreDistinct (sym (groups-last rows row)) (distinct-last (members g) (groups_in rows) known.distinct new);
-        each = All-push (λ (r : Row). IsBounded (problem_of inst) (row_from r)) rows row known.each entered-bounded;
-      }
-
   pub entered-sound : AreSound (problem_of inst) rows → AreSound (problem_of inst) (rows ++ record { group = g; low = 0; up = up } ∷ [])
   entered-sound sound =
       let p = problem_of inst in
@@ -289,3 +287,40 @@ module _ (inst : Instance) (rows : List Row) (g : Group) (up : ℕ) (real : IsRe
 pub Narrows-last : (rows : List Row) (r s : Row) → s.group ≡ r.group → r.low ≤ s.low → s.up ≤ r.up → Narrows (rows ++ r ∷ []) (rows ++ s ∷ [])
 Narrows-last [] r s g l u = (g, l, u, tt)
 Narrows-last (x ∷ rest) r s g l u = (refl, omega arith, omega arith, Narrows-last rest r s g l u)
+
+-- ---- a row is capped by greedy's cost ----
+
+-- a row that hears greedy's cost is capped to it
+pub heard-capped : (rows : List Row) (k to : ℕ) → set rows k (heard 0 to (row_at rows k)) ≡ capped_at rows k to
+heard-capped rows k to =
+    let r = row_at rows k in
+    let same : max r.low 0 ≡ r.low = omega arith in
+    ap (λ n. set rows k (record { group = r.group; low = n; up = min r.up to })) same
+
+-- the last row is capped
+pub capped-last : (rows : List Row) (r : Row) (to : ℕ) → capped_at (rows ++ r ∷ []) (length rows) to ≡ rows ++ record r { up = min r.up to } ∷ []
+capped-last [] r to = refl
+capped-last (x ∷ rest) r to = ap (λ l. x ∷ l) (capped-last rest r to)
+
+pub group-last : (rows : List Row) (r : Row) → group_at (rows ++ r ∷ []) (length rows) ≡ r.group
+group-last [] r = refl
+group-last (x ∷ rest) r = group-last rest r
+
+-- where it is no more already, nothing changes
+pub set-itself : (rows : List Row) (k : ℕ) → set rows k (row_at rows k) ≡ rows
+set-itself [] k = refl
+set-itself (r ∷ rest) zero = refl
+set-itself (r ∷ rest) (suc k) = ap (λ l. r ∷ l) (set-itself rest k)
+
+pub already-capped : (rows : List Row) (k to : ℕ) → (row_at rows k).up ≤ to → rows ≡ capped_at rows k to
+already-capped rows k to le =
+    let r = row_at rows k in
+    let same : r.up ≡ min r.up to = omega arith in
+    sym (set-itself rows k) ∙ ap (λ n. set rows k (record { group = r.group; low = r.low; up = n })) same
+
+-- the rows allow it
+pub cap-allowed : (p : Problem) (rows : List Row) (group : List ℕ) (to : ℕ) → to ≡ greedy_cost p group → Allow p rows group 0 to
+cap-allowed p rows group to is = record {
+  low_allowed = omega arith;
+  up_allowed = (let first = least_of-first (greedy_cost p group) (filter_map (step_value p (known_up p (rows_from rows)) group) (splitting p group)) in omega arith);
+}

@@ -1,20 +1,18 @@
 -- The tests of a group of which some are evaluated and some wait. A test that is evaluated leaves the list of those that wait
 -- and goes to the evaluated ones, and none other is touched: so each that was covered is covered still, whatever its sum.
 use Rattle.std.proofs.Common.{◌≡◌, ◌⊎◌, ℕ, zero, suc, ◌+◌, ◌<◌, ◌≤◌, Bool, filter, nat_le, cond, List, [], ◌∷◌, ◌++◌, length, get_or, inl, inr, refl, sym, ap, ◌∙◌, subst, arith, true, false, All, Contains, map, Some, slice_get, swap_remove, IsPermutation}
-use Rattle.std.proofs.lemmas.Bool.{cases_lt, cases_Bool, true≢false, le-leb, lt-leb, leb-true}
+use Rattle.std.proofs.lemmas.Bool.{cases_lt, cases_Bool, true≢false, le-leb, lt-leb}
 use Rattle.std.proofs.lemmas.List.{map-append}
 use Rattle.std.proofs.lemmas.List.Elements.{All-head, All-tail, All-nil, All-push, All-weaker, All-filter}
 use Rattle.std.proofs.lemmas.List.Sorted.{IsPermutation-swap_remove, All-permutation, Contains-permutation}
 use Rattle.std.proofs.lemmas.Option.{slice_get-get_or, slice_get_within}
-use Rattle.seq_theory.specs.Problem.{Problem, IsIn, splits, splitting, pass_part, fail_part, count_up, is_end, weight_of, IsWithin}
-use Rattle.seq_theory.specs.Bound.{bound, step_sum}
+use Rattle.seq_theory.specs.Problem.{Problem, IsIn, splits, splitting, pass_part, fail_part, count_up, weight_of, IsWithin}
+use Rattle.seq_theory.specs.Bound.{step_sum}
 use Rattle.seq_theory.specs.Greedy.{first_least}
-use Rattle.seq_theory.proofs.GroupLaws.{IsIn-filter, filter-IsIn, filter_passes, length-two_filters, pass_part_smaller, fail_part_smaller}
+use Rattle.seq_theory.proofs.GroupLaws.{IsIn-filter, filter-IsIn, filter_passes, pass_part_smaller}
 use Rattle.seq_theory.proofs.LeastLaws.{IsIn-count_up, count_up-IsIn}
 use Rattle.seq_theory.proofs.BelowLaws.{product-le}
-use Rattle.seq_inst.specs.declared.group.Group.{Group}
 use Rattle.seq_inst.specs.declared.instance.Instance.{Instance}
-use Rattle.seq_inst.specs.Members.{members}
 use Rattle.seq_inst.specs.Instances.{problem_of}
 use Rattle.seq_graph.specs.declared.node.Node.{Node}
 use Rattle.seq_graph.specs.declared.node.Split.{Split}
@@ -354,24 +352,6 @@ module _ (p : Problem) (v : Numbered) (group : List ℕ) (sum : ℕ → ℕ) (up
         | inr (inr above) ↦ absurd (let bad : ⊥ = omega arith in bad)
       ])
 
--- no test splits a group of one goal, so nothing need be listed
-pub tests-none : (inst : Instance) (g : Group) (v : Numbered) (up : ℕ) → is_end (problem_of inst) (members g) ≡ true → (listed : List Split) (waiting : List Waiting) → listed ≡ [] → waiting ≡ []
-    → AreTestsOf (problem_of inst) v (members g) (step_sum (problem_of inst) (bound (problem_of inst)) (members g)) up listed waiting
-tests-none inst g v up end listed waiting none none_wait =
-    let p = problem_of inst in
-    let one = leb-true (length (members g)) 1 (inst.stands.ends g ∙ end) in
-    record {
-      covers = λ t h.
-          let there = filter_passes (splits p (members g)) t (count_up 0 p.tests) h in
-          let pass = pass_part_smaller p t (members g) there in
-          let fail = fail_part_smaller p t (members g) there in
-          let both = length-two_filters (p.passes t) (members g) in
-          absurd (let bad : ⊥ = omega arith in bad);
-      parts = subst (All (HasParts p v (members g))) (sym none) (All-nil (HasParts p v (members g)));
-      splits_are = subst (All (λ (s : Split). IsIn s.test (splitting p (members g)))) (sym none) (All-nil (λ (s : Split). IsIn s.test (splitting p (members g))));
-      waiting_are = subst (All (λ (w : Waiting). IsIn w.test (splitting p (members g)))) (sym none_wait) (All-nil (λ (w : Waiting). IsIn w.test (splitting p (members g))));
-    }
-
 -- each sum of a test that splits a group is more than 0, as costs and weights are
 pub sum-positive : (inst : Instance) (l : List ℕ → ℕ) (group : List ℕ) (t : ℕ) → IsWithin (problem_of inst) group → t < (problem_of inst).tests → splits (problem_of inst) group t ≡ true → 0 < step_sum (problem_of inst) l group t
 sum-positive inst l [] t within there split = absurd (let lt = pass_part_smaller (problem_of inst) t [] split in let bad : ⊥ = omega arith in bad)
@@ -381,3 +361,17 @@ sum-positive inst l (c ∷ rest) t within there split =
     let cost = (inst.valid.costs t there).0 in
     let product = product-le 1 1 (p.cost t) (weight_of p (c ∷ rest)) cost (omega arith) in
     omega arith
+
+-- so where no test is listed each has a sum above 0
+pub tests-unlisted : (inst : Instance) (l : List ℕ → ℕ) (group : List ℕ) (v : Numbered) → IsWithin (problem_of inst) group → (listed : List Split) (waiting : List Waiting) → listed ≡ [] → waiting ≡ []
+    → AreTestsOf (problem_of inst) v group (step_sum (problem_of inst) l group) 0 listed waiting
+tests-unlisted inst l group v within listed waiting none none_wait =
+    let p = problem_of inst in
+    record {
+      covers = λ t h.
+          let lt = (count_up-IsIn t 0 p.tests (filter-IsIn (splits p group) t (count_up 0 p.tests) h)).1 in
+          inr (inr (sum-positive inst l group t within (omega arith) (filter_passes (splits p group) t (count_up 0 p.tests) h)));
+      parts = subst (All (HasParts p v group)) (sym none) (All-nil (HasParts p v group));
+      splits_are = subst (All (λ (s : Split). IsIn s.test (splitting p group))) (sym none) (All-nil (λ (s : Split). IsIn s.test (splitting p group)));
+      waiting_are = subst (All (λ (w : Waiting). IsIn w.test (splitting p group))) (sym none_wait) (All-nil (λ (w : Waiting). IsIn w.test (splitting p group)));
+    }

@@ -1,25 +1,20 @@
 -- Sums of tests the plain way. A group without a number has no row, so it counts its bound for a low. The loop over the tests
 -- keeps the lowest of least sum, and the least of what they give over ups.
-use Rattle.std.proofs.Common.{◌≡◌, ◌⊎◌, ℕ, zero, suc, ◌+◌, ◌*◌, ◌<◌, ◌≤◌, min, List, [], ◌∷◌, ◌++◌, length, refl, sym, ap, ◌∙◌, arith, inl, inr, subst, Option, Some, None}
-use Rattle.std.specs.Prelude.{Bool, true, false, cond, nat_le, ◌≢◌}
-use Rattle.std.specs.List.{filter_map, cons_option}
+use Rattle.std.proofs.Common.{◌≡◌, ◌⊎◌, ℕ, ◌+◌, ◌<◌, ◌≤◌, min, List, refl, sym, ap, ◌∙◌, arith, inl, inr, Option, Some, None}
+use Rattle.std.specs.Prelude.{true, false, nat_le, ◌≢◌}
+use Rattle.std.specs.List.{filter_map}
 use Rattle.std.proofs.lemmas.Bool.{cases_Bool, cases_lt, true≢false, leb-true, leb-false}
-use Rattle.seq_theory.specs.Problem.{Problem, IsIn, IsWithin, AreTold, count_up, splits, splitting, weight_of, is_end, least_of, pass_part, fail_part}
-use Rattle.seq_theory.specs.Bound.{bound, step_sum}
+use Rattle.seq_theory.specs.Problem.{Problem, IsIn, IsWithin, AreTold, splits, splitting, is_end}
+use Rattle.seq_theory.specs.Bound.{bound}
 use Rattle.seq_theory.specs.Graph.{is_entered, step_value, sum_with}
-use Rattle.seq_theory.specs.Greedy.{first_least, greedy_test, greedy_cost}
-use Rattle.seq_theory.specs.Rows.{Row as PlainRow, no_value, row_for, low_or, up_or, known_low, known_up, least_up}
+use Rattle.seq_theory.specs.Greedy.{first_least, greedy_test}
+use Rattle.seq_theory.specs.Rows.{no_value, known_low, known_up}
 use Rattle.seq_theory.proofs.GreedyLaws.{bound-end, greedy_test_splits}
-use Rattle.seq_theory.proofs.GroupLaws.{filter-IsIn, IsIn-filter}
-use Rattle.seq_theory.proofs.LeastLaws.{IsIn-count_up, count_up-IsIn}
 use Rattle.seq_theory.proofs.PartsRecursion.{splitting-splits, splitting-there}
-use Rattle.seq_theory.proofs.ValLaws.{least_of-first, least_of-values-le, values-at_least, IsLeastValue, is_first, is_at, least_value, sum_with-parts}
+use Rattle.seq_theory.proofs.ValLaws.{least_of-first, least_of-values-le, IsLeastValue, is_first, is_at, least_value}
 use Rattle.seq_huff.specs.Bounds.{greatest_cost}
-use Rattle.seq_inst.specs.declared.group.Group.{Group}
-use Rattle.seq_inst.specs.declared.instance.Instance.{Instance}
 use Rattle.seq_inst.specs.declared.outcome.Row.{Row}
 use Rattle.seq_inst.specs.Members.{members}
-use Rattle.seq_inst.specs.Instances.{problem_of}
 use Rattle.seq_core.specs.RowsOf.{rows_of as rows_from}
 use Rattle.seq_core.specs.Settled.{value_or}
 use Rattle.seq_graph.specs.declared.node.Node.{Node}
@@ -27,12 +22,10 @@ use Rattle.seq_graph.specs.declared.graph.Count.{Count}
 use Rattle.seq_graph.specs.declared.plain.Plain.{Plain}
 use Rattle.seq_graph.specs.Numbered.{Numbered}
 use Rattle.seq_graph.specs.Choice.{lesser_plain, LeastBelow}
-use Rattle.seq_graph.specs.Settling.{IsLeastUp, UpBelow}
-use Rattle.seq_graph.specs.Known.{AreRows, AreKnown, group_at}
-use Rattle.seq_graph.proofs.ChoiceLaws.{least_test-first, first_least-in}
+use Rattle.seq_graph.specs.Settling.{up_by, IsLeastUp, UpBelow}
+use Rattle.seq_graph.specs.Known.{AreKnown, group_at}
 use Rattle.seq_graph.proofs.GreedyChoiceLaws.{splitting-in, first-pick-up}
 use Rattle.seq_graph.proofs.LookLaws.{no-number}
-use Rattle.seq_graph.proofs.CountLaws.{up-small}
 
 -- ---- a group without a number ----
 
@@ -140,35 +133,35 @@ value-small a None is small ne = absurd (ne is)
 value-small a (Some u) is small ne = let s = small u refl in omega arith
 
 module _ (p : Problem) (rows : List Row) (place : ℕ) where
-  pub up-none : (least : ℕ) → least ≡ greedy_cost p (members (group_at rows place)) → UpBelow p rows place 0 least
-  up-none least e = record {
-    no_less = (let first = least_of-first (greedy_cost p (members (group_at rows place))) (filter_map (step_value p (known_up p (rows_from rows)) (members (group_at rows place))) (splitting p (members (group_at rows place)))) in omega arith);
-    greedy = omega arith;
+  pub up-none : UpBelow p rows place 0 no_value
+  up-none = record {
+    no_less = least_of-first no_value (filter_map (step_value p (known_up p (rows_from rows)) (members (group_at rows place))) (splitting p (members (group_at rows place))));
+    word = omega arith;
     each = λ t n lt. absurd (let bad : ⊥ = omega arith in bad);
   }
 
-  pub up-more : (k least now u : ℕ) → UpBelow p rows place k least → greedy_cost p (members (group_at rows place)) ≤ greatest_cost → k < p.tests → splits p (members (group_at rows place)) k ≡ true
+  pub up-more : (k least now u : ℕ) → UpBelow p rows place k least → k < p.tests → splits p (members (group_at rows place)) k ≡ true
       → u ≡ value_or (step_value p (known_up p (rows_from rows)) (members (group_at rows place)) k) → now ≡ min least u → UpBelow p rows place (k + 1) now
-  up-more k least now u i fits there split is e = record {
+  up-more k least now u i there split is e = record {
     no_less = (let a = i.no_less in let b = above (step_value p (known_up p (rows_from rows)) (members (group_at rows place)) k) refl in omega arith);
-    greedy = (let g = i.greedy in omega arith);
+    word = (let w = i.word in omega arith);
     each = λ t n lt s v. elim (cases_lt t k) [
       | inl l ↦ (let a = i.each t n l s v in omega arith)
       | inr ge ↦ (let same : t ≡ k = omega arith in let at = is ∙ ap (λ m. value_or (step_value p (known_up p (rows_from rows)) (members (group_at rows place)) m)) (sym same) ∙ ap value_or v in omega arith)
     ];
   }
     where
-      above : (o : Option ℕ) → step_value p (known_up p (rows_from rows)) (members (group_at rows place)) k ≡ o → least_up p (rows_from rows) (members (group_at rows place)) ≤ u
-      above None at = let a = i.no_less in let g = i.greedy in let z = is ∙ ap value_or at in omega arith
+      above : (o : Option ℕ) → step_value p (known_up p (rows_from rows)) (members (group_at rows place)) k ≡ o → up_by p rows (members (group_at rows place)) (splitting p (members (group_at rows place))) ≤ u
+      above None at = let a = i.no_less in let w = i.word in let z = is ∙ ap value_or at in omega arith
       above (Some n) at =
-          let a = least_of-values-le (greedy_cost p (members (group_at rows place))) (step_value p (known_up p (rows_from rows)) (members (group_at rows place))) k n (splitting p (members (group_at rows place))) (splitting-in p (members (group_at rows place)) k there split) at in
+          let a = least_of-values-le no_value (step_value p (known_up p (rows_from rows)) (members (group_at rows place))) k n (splitting p (members (group_at rows place))) (splitting-in p (members (group_at rows place)) k there split) at in
           let z = is ∙ ap value_or at in
           omega arith
 
   pub up-same : (k least : ℕ) → UpBelow p rows place k least → splits p (members (group_at rows place)) k ≡ false → UpBelow p rows place (k + 1) least
   up-same k least i other = record {
     no_less = i.no_less;
-    greedy = i.greedy;
+    word = i.word;
     each = λ t n lt s v. elim (cases_lt t k) [
       | inl l ↦ i.each t n l s v
       | inr ge ↦ absurd (let same : t ≡ k = omega arith in true≢false (sym s ∙ ap (splits p (members (group_at rows place))) same ∙ other))
@@ -178,10 +171,10 @@ module _ (p : Problem) (rows : List Row) (place : ℕ) where
   pub up-all : (k least : ℕ) → k ≡ p.tests → UpBelow p rows place k least → IsLeastUp p rows place least
   up-all k least all i =
       let g = members (group_at rows place) in
-      let le = go (least_up p (rows_from rows) g) (least_value (greedy_cost p g) (step_value p (known_up p (rows_from rows)) g) (splitting p g)) in
+      let le = go (up_by p rows g (splitting p g)) (least_value no_value (step_value p (known_up p (rows_from rows)) g) (splitting p g)) in
       let ge = i.no_less in
       omega arith
     where
-      go : (n : ℕ) → IsLeastValue (greedy_cost p (members (group_at rows place))) (step_value p (known_up p (rows_from rows)) (members (group_at rows place))) (splitting p (members (group_at rows place))) n → least ≤ n
-      go n (is_first e) = let g = i.greedy in omega arith
+      go : (n : ℕ) → IsLeastValue no_value (step_value p (known_up p (rows_from rows)) (members (group_at rows place))) (splitting p (members (group_at rows place))) n → least ≤ n
+      go n (is_first e) = let w = i.word in omega arith
       go n (is_at t j e) = i.each t n (let lt = splitting-there p (members (group_at rows place)) t j in omega arith) (splitting-splits p (members (group_at rows place)) t j) e

@@ -1,43 +1,26 @@
 -- Room is kept where no list is longer, none has less room, and no number that is held was used.
-use Rattle.std.proofs.Common.{◌≡◌, ℕ, ◌+◌, ◌<◌, ◌≤◌, List, [], ◌∷◌, ◌++◌, length, arith, sym, ap, ◌∙◌, subst, vec_capacity, Result, Ok, Err, IsOk, is_ok, if◌then◌else◌, true, false}
+use Rattle.std.proofs.Common.{◌≡◌, ◌≤◌, List, [], ◌∷◌, ◌++◌, length, arith, sym, vec_capacity, Result, Ok, Err, IsOk, is_ok, if◌then◌else◌, true, false}
 use Rattle.std.specs.Prelude.{is_err}
 use Rattle.std.proofs.lemmas.Bool.{true≢false}
 use Rattle.seq_graph.specs.declared.graph.Graph.{Graph}
-use Rattle.seq_graph.specs.Numbered.{Numbered, capacity, KeepsNumberRoom}
-use Rattle.seq_graph.specs.Rooms.{HasRoom, KeepsRoom, UsesRoomOfOne}
+use Rattle.seq_graph.specs.Numbered.{capacity}
+use Rattle.seq_graph.specs.Rooms.{KeepsRoom}
 
 pub keeps-room : (old new : Graph) → length new.rows.items ≡ length old.rows.items → vec_capacity old.rows ≤ vec_capacity new.rows → length new.nodes.items ≡ length old.nodes.items → vec_capacity old.nodes ≤ vec_capacity new.nodes
-    → length old.lists.items ≤ length new.lists.items → old.numbers.held ≤ new.numbers.held → (capacity old.numbers ≤ vec_capacity old.counts → capacity new.numbers ≤ vec_capacity new.counts) → KeepsRoom old new
-keeps-room old new rows row_room nodes node_room lists held counts more room =
+    → old.numbers.held ≤ new.numbers.held → (capacity old.numbers ≤ vec_capacity old.counts → capacity new.numbers ≤ vec_capacity new.counts) → KeepsRoom old new
+keeps-room old new rows row_room nodes node_room held counts more room =
     let a = room.rows in
     let b = room.nodes in
-    let c = room.lists in
     let d = room.numbers in
     record {
       rows = omega arith;
       nodes = omega arith;
-      lists = omega arith;
       numbers = omega arith;
       counts = counts room.counts;
     }
 
 pub keeps-room-both : (a b c : Graph) → KeepsRoom a b → KeepsRoom b c → KeepsRoom a c
 keeps-room-both a b c ab bc more room = bc more (ab more room)
-
-pub uses-one : (old new : Graph) → length new.rows.items ≡ length old.rows.items + 1 → vec_capacity old.rows ≤ vec_capacity new.rows → length new.nodes.items ≡ length old.nodes.items + 1 → vec_capacity old.nodes ≤ vec_capacity new.nodes
-    → length new.lists.items + 1 ≡ length old.lists.items → new.numbers.held + 1 ≡ old.numbers.held → (capacity old.numbers ≤ vec_capacity old.counts → capacity new.numbers ≤ vec_capacity new.counts) → UsesRoomOfOne old new
-uses-one old new rows row_room nodes node_room lists held counts more room =
-    let a = room.rows in
-    let b = room.nodes in
-    let c = room.lists in
-    let d = room.numbers in
-    record {
-      rows = omega arith;
-      nodes = omega arith;
-      lists = omega arith;
-      numbers = omega arith;
-      counts = counts room.counts;
-    }
 
 -- ---- a list takes one more ----
 

@@ -1,22 +1,20 @@
 -- Where the rows of all smaller groups are settled, what the parts of a group count is their low and their value over the rows'
 -- groups. So the row that its tests tighten is settled, too: all its tests give its low; and of those that give its value one is
--- evaluated, or else greedy costs no more. For a test that was left out gives more than the row's up, which is no less than the
--- value, and one that waits has a part without a value.
-use Rattle.std.proofs.Common.{◌≡◌, ℕ, zero, suc, ◌+◌, ◌*◌, ◌<◌, ◌≤◌, min, List, [], ◌∷◌, length, length-set, map, set, slice_get, slice_index, get_or-set_same, get_or-set_other, refl, sym, ap, ◌∙◌, arith, inl, inr, subst, Some, None}
+-- evaluated, or else greedy costs no more, by whose cost the row is capped. For a test that was left out gives more than the row's up,
+-- which is no less than the value, and one that waits has a part without a value.
+use Rattle.std.proofs.Common.{◌≡◌, ℕ, ◌*◌, ◌<◌, ◌≤◌, min, List, ◌∷◌, length, map, set, slice_get, sym, ap, ◌∙◌, arith, inl, inr, subst, Some, None}
 use Rattle.std.specs.Prelude.{Bool, true}
 use Rattle.std.specs.List.{filter_map}
 use Rattle.seq_theory.specs.Problem.{Problem, least_of, IsIn, IsWithin, pass_part, fail_part, fails, splitting, weight_of}
 use Rattle.seq_theory.specs.Bound.{step_sum}
 use Rattle.seq_theory.specs.Greedy.{greedy_cost}
 use Rattle.seq_theory.specs.Graph.{low, val, step_value}
-use Rattle.seq_theory.specs.Rows.{known_low, known_up, most_low, least_up}
+use Rattle.seq_theory.specs.Rows.{no_value, known_low, known_up, most_low, least_up}
 use Rattle.seq_theory.proofs.GroupLaws.{pass_part_smaller, fail_part_smaller}
 use Rattle.seq_theory.proofs.GreedyLaws.{part-within}
 use Rattle.seq_theory.proofs.PartsRecursion.{splitting-splits}
 use Rattle.seq_theory.proofs.LowLaws.{low-le-least}
-use Rattle.seq_theory.proofs.ValLaws.{val-entered, least-le-val, least_of-first, least_of-values-le, IsLeastValue, is_first, is_at, least_value, sum_with-parts}
-use Rattle.seq_theory.proofs.CountedLaws.{counted-length, counted-below}
-use Rattle.seq_inst.specs.declared.group.Group.{Group}
+use Rattle.seq_theory.proofs.ValLaws.{val-entered, least-le-val, least_of-values-le, IsLeastValue, is_first, is_at, least_value, sum_with-parts}
 use Rattle.seq_inst.specs.declared.instance.Instance.{Instance}
 use Rattle.seq_inst.specs.declared.outcome.Row.{Row}
 use Rattle.seq_inst.specs.Members.{members}
@@ -32,10 +30,12 @@ use Rattle.seq_graph.proofs.KeptLaws.{all-waits}
 use Rattle.seq_graph.specs.declared.graph.Count.{Count}
 use Rattle.seq_graph.specs.Known.{AreRows, AreSound, AreKnown, Allow, IsClosedAt, heard, no_row, row_at, group_at, splits_in, splits_at, waiting_in, waiting_at, most_in, most_at}
 use Rattle.seq_graph.specs.Looks.{NoneIsValued}
-use Rattle.seq_graph.specs.Settling.{evaluated_up, IsSettledUp}
+use Rattle.seq_graph.specs.Settling.{evaluated_up, IsGreedyCap, IsLeastUp, IsSettledUp}
 use Rattle.seq_graph.proofs.KnownLaws.{row-real, row-within}
 use Rattle.seq_graph.proofs.RowLaws.{row-among, row-entered}
+use Rattle.seq_graph.proofs.EventLaws.{set-itself}
 use Rattle.seq_graph.proofs.SplitLaws.{kept-there}
+use Rattle.seq_graph.proofs.CapLaws.{below-greedy, cap-above}
 
 none-some : (n : ℕ) → None ≡ Some n → ⊥
 none-some n e = let bad : ⊥ = cc in bad
@@ -65,12 +65,12 @@ module _ (inst : Instance) (v : Numbered) (rows : List Row) (kept : List Node) (
       let s = parts.sum in
       omega arith
 
-  -- the up is no more than what the evaluated tests give, and all tests are listed of which the sum is at most the row's up
+  -- the up is no more than what the evaluated tests give, and all tests are listed of which the sum is at most the row's up: a test
+  -- that gives a value is evaluated, or gives more than the row's up
   module _ (up : ℕ) (le : up ≤ evaluated_up (problem_of inst) rows kept place) (listed : (row_at rows place).up ≤ most_at kept place) (none : NoneIsValued (problem_of inst) rows kept place) where
-    -- a test that gives a value is evaluated, or gives more than the row's up
-    capped-at : (k : Node) → slice_get kept place ≡ Some k → (t n : ℕ) → IsIn t (splitting (problem_of inst) (members (group_at rows place)))
+    listed-at : (k : Node) → slice_get kept place ≡ Some k → (t n : ℕ) → IsIn t (splitting (problem_of inst) (members (group_at rows place)))
         → step_value (problem_of inst) (known_up (problem_of inst) (rows_from rows)) (members (group_at rows place)) t ≡ Some n → min (row_at rows place).up up ≤ n
-    capped-at k at t n it is =
+    listed-at k at t n it is =
         let p = problem_of inst in
         let g = members (group_at rows place) in
         let f = step_value p (known_up p (rows_from rows)) g in
@@ -78,22 +78,34 @@ module _ (inst : Instance) (v : Numbered) (rows : List Row) (kept : List Node) (
         elim (of.tests.covers t it) [
           | inl l ↦
               (let here = subst (λ l. IsIn t (map (λ (s : Split). s.test) l)) (sym (ap splits_in at)) l in
-              let least = least_of-values-le (greedy_cost p g) f t n (map (λ (s : Split). s.test) (splits_at kept place)) here is in
+              let least = least_of-values-le no_value f t n (map (λ (s : Split). s.test) (splits_at kept place)) here is in
               omega arith)
           | inr (inl b) ↦ absurd (none-some n (sym (all-waits (λ (w : Waiting). f w.test ≡ None) b.entry (waiting_at kept place) none (subst (λ l. Waits b.entry l) (sym (ap waiting_in at)) b.waits)) ∙ ap f b.test_is ∙ is))
           | inr (inr above) ↦ (let a = sum-le-value t n it is in let most = ap most_in at in omega arith)
         ]
 
-    capped-most : (n : ℕ) → IsLeastValue (greedy_cost (problem_of inst) (members (group_at rows place))) (step_value (problem_of inst) (known_up (problem_of inst) (rows_from rows)) (members (group_at rows place))) (splitting (problem_of inst) (members (group_at rows place))) n
+    listed-each : (t n : ℕ) → IsIn t (splitting (problem_of inst) (members (group_at rows place))) → step_value (problem_of inst) (known_up (problem_of inst) (rows_from rows)) (members (group_at rows place)) t ≡ Some n
         → min (row_at rows place).up up ≤ n
-    capped-most n (is_first e) =
-        let p = problem_of inst in
-        let g = members (group_at rows place) in
-        let first = least_of-first (greedy_cost p g) (filter_map (step_value p (known_up p (rows_from rows)) g) (map (λ (s : Split). s.test) (splits_at kept place))) in
-        omega arith
-    capped-most n (is_at t i e) = let long = known.kept_are.as_many in let k = kept-there kept place (omega arith) in capped-at k.0 k.1 t n i e
+    listed-each = let long = known.kept_are.as_many in let k = kept-there kept place (omega arith) in listed-at k.0 k.1
 
-    no-more : min (row_at rows place).up up ≤ least_up (problem_of inst) (rows_from rows) (members (group_at rows place))
+  -- so it is where the up is the least of what all tests give
+  all-each : (up : ℕ) → IsLeastUp (problem_of inst) rows place up → (t n : ℕ) → IsIn t (splitting (problem_of inst) (members (group_at rows place)))
+      → step_value (problem_of inst) (known_up (problem_of inst) (rows_from rows)) (members (group_at rows place)) t ≡ Some n → min (row_at rows place).up up ≤ n
+  all-each up is t n it e =
+      let p = problem_of inst in
+      let g = members (group_at rows place) in
+      let least = least_of-values-le no_value (step_value p (known_up p (rows_from rows)) g) t n (splitting p g) it e in
+      omega arith
+
+  -- then the row is capped to no more than what the rows allow, where it is capped by greedy's cost, too
+  module _ (up cap : ℕ) (each : (t n : ℕ) → IsIn t (splitting (problem_of inst) (members (group_at rows place))) → step_value (problem_of inst) (known_up (problem_of inst) (rows_from rows)) (members (group_at rows place)) t ≡ Some n → min (row_at rows place).up up ≤ n)
+      (greedy : IsGreedyCap (problem_of inst) rows place cap) where
+    capped-most : (n : ℕ) → IsLeastValue (greedy_cost (problem_of inst) (members (group_at rows place))) (step_value (problem_of inst) (known_up (problem_of inst) (rows_from rows)) (members (group_at rows place))) (splitting (problem_of inst) (members (group_at rows place))) n
+        → min (row_at rows place).up (min up cap) ≤ n
+    capped-most n (is_first e) = let h = greedy.caps in omega arith
+    capped-most n (is_at t i e) = let h = each t n i e in omega arith
+
+    no-more : min (row_at rows place).up (min up cap) ≤ least_up (problem_of inst) (rows_from rows) (members (group_at rows place))
     no-more =
         let p = problem_of inst in
         let g = members (group_at rows place) in
@@ -111,19 +123,52 @@ module _ (inst : Instance) (v : Numbered) (rows : List Row) (kept : List Node) (
       ap (λ n. record { group = group_at rows place; low = n; up = min (row_at rows place).up up }) low_is
       ∙ ap (λ n. record { group = group_at rows place; low = low p (groups_in rows) g; up = n }) up_is
 
-  -- the up of all tests that were looked at, or of all tests
-  pub tightened-settled : (looked : Bool) (before up : ℕ) → (looked ≡ true → NoneIsValued (problem_of inst) rows kept place) → least_up (problem_of inst) (rows_from rows) (members (group_at rows place)) ≤ before → before ≤ evaluated_up (problem_of inst) rows kept place
-      → IsSettledUp (problem_of inst) rows kept place looked before up
-      → heard (most_low (problem_of inst) (rows_from rows) (members (group_at rows place))) up (row_at rows place) ≡ settled_row (problem_of inst) (groups_in rows) (row_at rows place)
-  tightened-settled looked before up none no_less le (inl at) =
+  -- the up of all tests that were looked at, or of all tests, and greedy's cost
+  pub tightened-settled : (looked : Bool) (before up cap : ℕ) → (looked ≡ true → NoneIsValued (problem_of inst) rows kept place) → least_up (problem_of inst) (rows_from rows) (members (group_at rows place)) ≤ before → before ≤ evaluated_up (problem_of inst) rows kept place
+      → IsSettledUp (problem_of inst) rows kept place looked before up → IsGreedyCap (problem_of inst) rows place cap
+      → heard (most_low (problem_of inst) (rows_from rows) (members (group_at rows place))) (min up cap) (row_at rows place) ≡ settled_row (problem_of inst) (groups_in rows) (row_at rows place)
+  tightened-settled looked before up cap none no_less le (inl at) greedy =
       let same = at.0 in
-      settled-between up (omega arith) (no-more up (omega arith) (at.1).listed (none (at.1).looked_at))
-  tightened-settled looked before up none no_less le (inr is) = settled-between up (omega arith) (omega arith)
+      let a = greedy.allowed in
+      settled-between (min up cap) (omega arith) (no-more up cap (listed-each up (omega arith) (at.1).listed (none (at.1).looked_at)) greedy)
+  tightened-settled looked before up cap none no_less le (inr is) greedy =
+      let p = problem_of inst in
+      let g = members (group_at rows place) in
+      let below = below-greedy p (rows_from rows) g in
+      let small = inst.stands.greedy_fits (group_at rows place) (row-within p rows known.rows_are place lt) in
+      let above = cap-above p (rows_from rows) g no_value (splitting p g) (omega arith) (λ t i. i) in
+      let a = greedy.allowed in
+      settled-between (min up cap) (omega arith) (no-more up cap (all-each up is) greedy)
 
 -- what a row is capped to is allowed
-pub settled-allowed : (p : Problem) (rows : List Row) (kept : List Node) (place : ℕ) (looked : Bool) (raise before up : ℕ) → Allow p rows (members (group_at rows place)) raise before → IsSettledUp p rows kept place looked before up → Allow p rows (members (group_at rows place)) raise up
-settled-allowed p rows kept place looked raise before up allow (inl at) = let same = at.0 in let a = allow.up_allowed in record { low_allowed = allow.low_allowed; up_allowed = omega arith }
-settled-allowed p rows kept place looked raise before up allow (inr is) = record { low_allowed = allow.low_allowed; up_allowed = omega arith }
+pub settled-allowed : (inst : Instance) (rows : List Row) (kept : List Node) (place : ℕ) (looked : Bool) (raise before up cap : ℕ) → IsWithin (problem_of inst) (members (group_at rows place)) → Allow (problem_of inst) rows (members (group_at rows place)) raise before
+    → IsSettledUp (problem_of inst) rows kept place looked before up → IsGreedyCap (problem_of inst) rows place cap → Allow (problem_of inst) rows (members (group_at rows place)) raise (min up cap)
+settled-allowed inst rows kept place looked raise before up cap within allow (inl at) greedy =
+    let same = at.0 in
+    let a = allow.up_allowed in
+    let b = greedy.allowed in
+    record { low_allowed = allow.low_allowed; up_allowed = omega arith }
+settled-allowed inst rows kept place looked raise before up cap within allow (inr is) greedy =
+    let p = problem_of inst in
+    let g = members (group_at rows place) in
+    let below = below-greedy p (rows_from rows) g in
+    let small = inst.stands.greedy_fits (group_at rows place) within in
+    let above = cap-above p (rows_from rows) g no_value (splitting p g) (omega arith) (λ t i. i) in
+    let b = greedy.allowed in
+    record { low_allowed = allow.low_allowed; up_allowed = omega arith }
+
+-- a row whose up is at most greedy's cost needs no cap; and greedy's cost is a cap
+pub needs-no-cap : (inst : Instance) (rows : List Row) (place : ℕ) → IsWithin (problem_of inst) (members (group_at rows place)) → (row_at rows place).up ≤ greedy_cost (problem_of inst) (members (group_at rows place)) → IsGreedyCap (problem_of inst) rows place no_value
+needs-no-cap inst rows place within le =
+    let p = problem_of inst in
+    let below = below-greedy p (rows_from rows) (members (group_at rows place)) in
+    let small = inst.stands.greedy_fits (group_at rows place) within in
+    record { allowed = omega arith; caps = omega arith }
+
+pub capped-by-greedy : (p : Problem) (rows : List Row) (place cap : ℕ) → cap ≡ greedy_cost p (members (group_at rows place)) → IsGreedyCap p rows place cap
+capped-by-greedy p rows place cap is =
+    let below = below-greedy p (rows_from rows) (members (group_at rows place)) in
+    record { allowed = omega arith; caps = omega arith }
 
 -- ---- a row whose low and up are equal ----
 
@@ -148,11 +193,6 @@ closed-settled inst rows known sound k lt closed =
         ap (λ n. record { group = r.group; low = n; up = value_or (val p (groups_in rows) g) }) low_is
         ∙ ap (λ o. record { group = r.group; low = r.low; up = value_or o }) value
         ∙ ap (λ n. record { group = r.group; low = r.low; up = n }) up_is
-
-set-itself : (rows : List Row) (k : ℕ) → set rows k (row_at rows k) ≡ rows
-set-itself [] k = refl
-set-itself (r ∷ rest) zero = refl
-set-itself (r ∷ rest) (suc k) = ap (λ l. r ∷ l) (set-itself rest k)
 
 pub closed-set : (inst : Instance) (rows : List Row) → AreRows (problem_of inst) rows → AreSound (problem_of inst) rows → (k : ℕ) → k < length rows → IsClosedAt rows k → rows ≡ set rows k (settled_row (problem_of inst) (groups_in rows) (row_at rows k))
 closed-set inst rows known sound k lt closed = sym (ap (set rows k) (closed-settled inst rows known sound k lt closed) ∙ set-itself rows k)

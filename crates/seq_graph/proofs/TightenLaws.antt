@@ -1,6 +1,6 @@
 -- Raising and capping a group by the test of least sum and the evaluated ones is allowed, and closes the group where both parts by
 -- that test are closed: its sum over lows, to which the group is raised, is one of the sums by which it is capped.
-use Rattle.std.proofs.Common.{◌≡◌, ℕ, zero, suc, ◌<◌, ◌≤◌, max, min, List, [], ◌∷◌, length, get_or, map, ap, ◌∙◌, arith, inl, inr, refl, subst, Option, Some, None}
+use Rattle.std.proofs.Common.{◌≡◌, ℕ, ◌<◌, ◌≤◌, max, min, List, length, get_or, map, ap, ◌∙◌, arith, refl, subst, Option, Some, None}
 use Rattle.seq_theory.specs.Problem.{IsIn, splitting}
 use Rattle.seq_theory.specs.Bound.{step_sum}
 use Rattle.seq_theory.specs.Greedy.{greedy_cost}
@@ -23,10 +23,9 @@ use Rattle.seq_graph.proofs.SplitLaws.{splits-read}
 use Rattle.seq_graph.proofs.ChoiceLaws.{IsFirst, least_test-first, most_low-is}
 use Rattle.seq_graph.proofs.CoverLaws.{test-listed}
 use Rattle.seq_theory.specs.Graph.{step_value}
-use Rattle.seq_theory.proofs.ValLaws.{least_of-first, least_of-values-le}
-use Rattle.std.specs.List.{filter_map}
+use Rattle.seq_theory.proofs.ValLaws.{least_of-values-le}
 use Rattle.seq_core.specs.Settled.{value_or}
-use Rattle.seq_graph.proofs.CapLaws.{cap-above, closed-value}
+use Rattle.seq_graph.proofs.CapLaws.{below-greedy, cap-above, closed-value}
 use Rattle.seq_graph.proofs.BoundsLaws.{allowed-right}
 
 module _ (inst : Instance) (v : Numbered) (rows : List Row) (kept : List Node) (counts : List Count) (known : AreKnown (problem_of inst) v rows kept counts) (place : ℕ) (lt : place < length rows) (k : Node) (read : k ≡ get_or kept place k)
@@ -67,7 +66,7 @@ module _ (inst : Instance) (v : Numbered) (rows : List Row) (kept : List Node) (
       go None is =
           let p = problem_of inst in
           let g = members (group_at rows place) in
-          let greedy = least_of-first (greedy_cost p g) (filter_map (step_value p (known_up p (rows_from rows)) g) (splitting p g)) in
+          let greedy = below-greedy p (rows_from rows) g in
           let small = inst.stands.greedy_fits (group_at rows place) (row-within p rows known.rows_are place lt) in
           let e : over ≡ no_value = over_is ∙ ap value_or is in
           omega arith
@@ -82,7 +81,9 @@ module _ (inst : Instance) (v : Numbered) (rows : List Row) (kept : List Node) (
   allow =
       let p = problem_of inst in
       let g = members (group_at rows place) in
-      let above = cap-above p (rows_from rows) g (map (λ (s : Split). s.test) (splits_at kept place)) within in
+      let greedy = below-greedy p (rows_from rows) g in
+      let small = inst.stands.greedy_fits (group_at rows place) (row-within p rows known.rows_are place lt) in
+      let above = cap-above p (rows_from rows) g no_value (map (λ (s : Split). s.test) (splits_at kept place)) (omega arith) within in
       let raised = most in
       let over_up = over-above in
       record { low_allowed = omega arith; up_allowed = omega arith }

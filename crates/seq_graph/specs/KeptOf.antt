@@ -1,10 +1,9 @@
 -- What is kept of a group is what working it out afresh gives. Its tests need not all be evaluated: the sum of one that waits
 -- is at least the number that it waits with, and one of which the sum is above an up can't lead below it. Where the lists have no
 -- room for all tests, those of which the sums are above a number may be missing.
-use Rattle.std.specs.Prelude.{◌≡◌, ◌⊎◌, ℕ, ◌<◌, ◌≤◌, min, true, All, List, [], ◌∷◌, ◌++◌, map, Some, slice_get, swap_remove}
+use Rattle.std.specs.Prelude.{◌≡◌, ◌⊎◌, ℕ, ◌<◌, ◌≤◌, true, false, All, List, [], ◌∷◌, ◌++◌, map, Some, slice_get, swap_remove}
 use Rattle.seq_theory.specs.Problem.{Problem, IsIn, splits, pass_part, fail_part, splitting, weight_of}
 use Rattle.seq_theory.specs.Bound.{bound as bound_of, step_sum}
-use Rattle.seq_theory.specs.Greedy.{greedy_cost}
 use Rattle.seq_graph.specs.declared.node.Node.{Node}
 use Rattle.seq_graph.specs.declared.node.Split.{Split}
 use Rattle.seq_graph.specs.declared.node.Waiting.{Waiting}
@@ -39,12 +38,14 @@ pub record AreTestsOf (p : Problem) (v : Numbered) (group : List ℕ) (sum : ℕ
   pub splits_are : All (λ s. IsIn s.test (splitting p group)) splits
   pub waiting_are : All (λ w. IsIn w.test (splitting p group)) waiting
 
+-- what is kept of a group at first: its number, its weight and its bound. Its row isn't capped by greedy's cost, and its tests may
+-- all be missing
 pub record IsKeptOf (p : Problem) (v : Numbered) (group : List ℕ) (k : Node) : Type 0 where
   pub number : HasNumber v group k.number
   pub weight : k.weight ≡ weight_of p group
   pub bound : k.bound ≡ bound_of p group
-  pub greedy : k.greedy ≡ greedy_cost p group
-  pub tests : AreTestsOf p v group (step_sum p (bound_of p) group) (min (greedy_cost p group) k.most) k.splits.items k.waiting.items
+  pub uncapped : k.capped ≡ false
+  pub tests : AreTestsOf p v group (step_sum p (bound_of p) group) k.most k.splits.items k.waiting.items
 
 -- the entry at the place waits no longer, the last one of the list stands there, and its test is the last of the evaluated
 -- ones, with the numbers of its parts

@@ -1,6 +1,6 @@
 -- What an engine knows: rows with bounds on the least costs of their groups, what is kept of each row's group, and what each group with
 -- a number counts.
-use Rattle.std.specs.Prelude.{◌≡◌, ℕ, ◌≤◌, max, min, All, List, [], ◌∷◌, length, map, Option, Some, None, slice_get, slice_set, slice_index_or}
+use Rattle.std.specs.Prelude.{◌≡◌, ℕ, ◌≤◌, true, max, min, All, List, [], ◌∷◌, length, map, Option, Some, None, slice_get, slice_set, slice_index_or}
 use Rattle.seq_theory.specs.Problem.{Problem, weight_of}
 use Rattle.seq_theory.specs.Tree.{IsLeast}
 use Rattle.seq_theory.specs.Bound.{bound, step_sum}
@@ -59,14 +59,14 @@ row_at rows place = slice_index_or rows place no_row
 abbrev pub group_at : List Row → ℕ → Group
 group_at rows place = (row_at rows place).group
 
--- what is kept of a row's group. Of the tests that split it each is evaluated, or waits with a number that is at most its sum, or
+-- what is kept of a row's group, with a flag that says that greedy costs no less than the row's up. Of the tests that split it each is evaluated, or waits with a number that is at most its sum, or
 -- is left out since its sum is above the row's up: lows rise and ups fall, so such a test is never again the one of least sum,
 -- and gives no lower up. Or it found no room in the lists: then its sum is above the most up to which the tests are listed
 pub record IsKeptBy (p : Problem) (v : Numbered) (rows : List Row) (r : Row) (k : Node) : Type 0 where
   pub number : HasNumber v (members r.group) k.number
   pub weight : k.weight ≡ weight_of p (members r.group)
   pub bound_is : k.bound ≡ bound p (members r.group)
-  pub greedy : k.greedy ≡ greedy_cost p (members r.group)
+  pub capped : k.capped ≡ true → r.up ≤ greedy_cost p (members r.group)
   pub tests : AreTestsOf p v (members r.group) (step_sum p (known_low p (rows_from rows)) (members r.group)) (min r.up k.most) k.splits.items k.waiting.items
 
 -- the evaluated tests of the group of a place, and those that wait

@@ -3,12 +3,11 @@ use Rattle.std.specs.Prelude.{ℕ, ◌+◌, ◌≤◌, length, vec_capacity}
 use Rattle.seq_graph.specs.declared.graph.Graph.{Graph}
 use Rattle.seq_graph.specs.Numbered.{capacity}
 
--- the graph has room for so many more groups: for their rows and what is kept of each, with lists of their tests, for their
--- numbers, and for what each group counts that can have a number
+-- the graph has room for so many more groups: for their rows and what is kept of each, for their numbers, and for what each group
+-- counts that can have a number. Lists of their tests aren't promised: without them sums are worked out the plain way
 pub record HasRoom (more : ℕ) (g : Graph) : Type 0 where
   pub rows : length g.rows.items + more ≤ vec_capacity g.rows
   pub nodes : length g.nodes.items + more ≤ vec_capacity g.nodes
-  pub lists : more ≤ length g.lists.items
   pub numbers : more ≤ g.numbers.held
   pub counts : capacity g.numbers ≤ vec_capacity g.counts
 

@@ -1,7 +1,7 @@
 //! What the tests of a group allow for its bounds: AO*'s revision from below upwards. Its low may rise to the
-//! least sum of a test over what the parts count for a low, and its up may fall to greedy's cost and to the
-//! sums over what the parts of the evaluated tests count for an up. Whether a row hears these bounds, or
-//! others that were found from them elsewhere, is another step.
+//! least sum of a test over what the parts count for a low, and its up may fall to the sums over what the parts
+//! of the evaluated tests count for an up. (It is at most greedy's cost already where the tests are listed.)
+//! Whether a row hears these bounds, or others that were found from them elsewhere, is another step.
 ghost use Rattle.std.specs.Prelude.{◌≡◌, ◌<◌, ◌≤◌, min, length};
 ghost use Rattle.seq_theory.specs.Bound.{step_sum};
 ghost use Rattle.seq_theory.specs.Graph.{step_value};
@@ -26,6 +26,9 @@ pub struct Bounds {
     /// `u64::MAX` where no upper bound is known.
     pub up: u64,
 }
+
+/// No group costs more.
+pub(crate) const GREATEST_COST: u64 = 2_097_664_000_000_000_000;
 
 /// What the tests of a group allow, by the one of least sum and those that are evaluated.
 pub(crate) fn bounds_by(inst: &Instance, graph: &Graph, place: usize, least: Least) -> Bounds

@@ -191,14 +191,14 @@ fn lesser_of(number: u64, value: Option<u64>) -> u64
     }
 }
 
-/// The least of greedy's cost and of the sums of the ups of the evaluated tests' parts.
+/// The least of the sums of the ups of the evaluated tests' parts: `u64::MAX` where none has both.
 pub(crate) fn least_up(inst: &Instance, graph: &Graph, place: usize) -> u64
     requires known { IsGraphOf inst.now graph.now }
     requires place { place < length graph.now.rows.items }
     ensures { result ≡ evaluated_up (problem_of inst.now) graph.now.rows.items graph.now.nodes.items place }
 {
     let splits = graph.nodes[place].splits.as_slice();
-    let mut least = graph.nodes[place].greedy;
+    let mut least = u64::MAX;
     for split in splits {
         least = lesser_of(least, up_sum(inst, graph, place, *split));
     }

@@ -2,7 +2,7 @@
 //! raised and capped. On one thread these are what its own tests allow; a worker hears what the shared words
 //! answer in their place. The rows' bounds stay true whatever is heard, and the rows stay sound where nothing
 //! is heard but what they allow.
-ghost use Rattle.std.specs.Prelude.{◌≡◌, ◌^◌, ◌<◌, ◌≤◌, false, length, slice_set, vec_capacity, Some, [], ◌∷◌, ◌++◌};
+ghost use Rattle.std.specs.Prelude.{◌≡◌, ◌^◌, ◌<◌, ◌≤◌, false, length, slice_set, vec_capacity, [], ◌∷◌, ◌++◌};
 ghost use Rattle.seq_theory.specs.Graph.{is_entered, IsReal};
 ghost use Rattle.seq_theory.specs.Greedy.{greedy_cost};
 ghost use Rattle.seq_theory.specs.Rows.{groups_of, no_value};
@@ -10,14 +10,13 @@ ghost use Rattle.seq_inst.specs.Members.{members};
 ghost use Rattle.seq_inst.specs.Instances.{problem_of};
 ghost use Rattle.seq_core.specs.RowsOf.{rows_of as rows_from};
 ghost use Rattle.seq_graph.specs.Known.{AreBounds, AreSound, Allow, Narrows, row_at, group_at, IsClosedAt, heard, raised_at, capped_at, narrowed_at, IsGraphOf};
-ghost use Rattle.seq_graph.specs.Counts.{count_at};
 ghost use Rattle.seq_graph.specs.Rooms.{HasRoom, KeepsRoom, UsesRoomOfOne};
 ghost use Rattle.seq_graph.specs.Steps.{ClosesBelow};
 
-use crate::bounds::{Bounds, backed_up};
-use crate::counts::count_new;
+use crate::bounds::{Bounds, GREATEST_COST, backed_up};
 use crate::graph::{Count, Graph};
-use crate::node::{Growth, Node};
+use crate::learning::{learn, list};
+use crate::node::Growth;
 use crate::sums::{leave_out, leave_out_waiting};
 use seq_inst::{Group, Instance, Row};
 
@@ -50,17 +49,6 @@ fn narrow(counts: &mut Vec<Count>, number: usize, low: u64, up: u64)
     let count = &mut counts[number];
     count.low = count.low.max(low);
     count.up = count.up.min(up);
-}
-
-/// A group that gets a row counts its up, and has its place.
-fn count_row(counts: &mut Vec<Count>, number: usize, up: u64, place: u32)
-    requires { number < length counts.old.items }
-    ensures counts { counts.new.items ≡ slice_set counts.old.items number (record (count_at counts.old.items number) { up = up; place = Some place }) }
-    ensures capacity { vec_capacity counts.new ≡ vec_capacity counts.old }
-{
-    let count = &mut counts[number];
-    count.up = up;
-    count.place = Some(place);
 }
 
 /// Raises and caps the row of a place, and what its group counts.
@@ -130,7 +118,8 @@ pub fn back_up(inst: &Instance, graph: &mut Graph, place: usize)
     hear(inst, graph, place, bounds);
 }
 
-/// Gives a group a row with what greedy costs for an up, and what is kept of it. There is room for it.
+/// Gives a group a row with what greedy costs for an up, and lists its tests, where a list is left for them. There
+/// is room for it.
 pub fn add(inst: &Instance, graph: &mut Graph, group: &Group)
     requires known { IsGraphOf inst.now graph.old }
     requires real { IsReal (problem_of inst.now) (members group.now) }
@@ -143,23 +132,12 @@ pub fn add(inst: &Instance, graph: &mut Graph, group: &Group)
     ensures sound { AreSound (problem_of inst.now) graph.old.rows.items → AreSound (problem_of inst.now) graph.new.rows.items }
 {
     let place = graph.rows.len();
-    let Some(lists) = graph.lists.pop() else {
-        unreachable!()
-    };
-    let kept = Node::of(&mut graph.numbers, inst, group, lists, graph.growth);
-    count_new(inst, &graph.numbers, &mut graph.counts);
-    count_row(
-        &mut graph.counts,
-        kept.number as usize,
-        kept.greedy,
-        place as u32,
-    );
-    let _ = graph.rows.push(Row {
-        group: *group,
+    let widest = Bounds {
         low: 0,
-        up: kept.greedy,
-    });
-    let _ = graph.nodes.push(kept);
+        up: GREATEST_COST,
+    };
+    learn(inst, graph, group, widest);
+    list(inst, graph, place);
 }
 
 /// Gives back the room of the tests that were left out, where lists may grow again. Most go at the first revision, so that this pays

@@ -29,7 +29,7 @@ pub struct Graph {
     pub nodes: Vec<Node>,
     /// By number.
     pub counts: Vec<Count>,
-    /// For the groups that are entered next, the last ones first.
+    /// For the groups whose tests are listed next, the last ones first.
     pub lists: Vec<Lists>,
     /// Whether the nodes' lists and the numbers take more memory while groups are looked at.
     pub growth: Growth,

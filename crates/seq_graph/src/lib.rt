@@ -5,7 +5,9 @@
 //! each group counts for a low and for an up. Bounds of other parts are remembered for a while (`BoundMemo`).
 //! Each group that is entered has a row, and what is kept of it (`Node`): the tests that split it are listed
 //! once. Each waits with a number that is at most its sum, and is evaluated where the least sum isn't certain
-//! without it. Those whose sums pass the group's up are left out for good. So a sum costs two look-ups.
+//! without it. Those whose sums pass the group's up are left out for good. So a sum costs two look-ups. A group
+//! that another worker entered may have a row with the bounds that were found there (`learn`): its tests are
+//! listed when they are asked for (`list`).
 //!
 //! An engine enters groups (`enter`), goes down by tests of least sum (`next_step`), and raises and caps the
 //! groups that it came through from what is known of their parts (`back_up`: AO*'s revision from below
@@ -23,6 +25,7 @@ mod finding;
 mod graph;
 mod greedy;
 mod laws;
+mod learning;
 mod look;
 mod memo;
 mod node;
@@ -41,6 +44,7 @@ pub use events::{add, back_up, enter, hear};
 pub use finding::place_of;
 pub use graph::{Count, Graph};
 pub use laws::turns_move;
+pub use learning::{learn, list};
 pub use node::{Growth, Lists, Node, Split, Waiting};
 pub use numbers::Numbers;
 pub use rooms::grow;

@@ -1,6 +1,9 @@
-//! What an engine keeps of a group. Each number is worked out once, when it is first asked for: greedy's
-//! cost, the bounds of the parts and the splitting tests take most of the time of a search, and a search
-//! asks for them again and again. What is kept is what working it out afresh would give.
+//! What an engine keeps of a group. Each number is worked out once, when it is first asked for: the bounds of
+//! the parts and the splitting tests take most of the time of a search, and a search asks for them again and
+//! again. What is kept is what working it out afresh would give.
+//!
+//! At first no test is listed, and greedy's cost isn't asked for: a row of which others found the bounds may need
+//! neither. Once the row is capped by greedy's cost, which its up keeps from then on, its tests are listed.
 //!
 //! The sum of a test takes the bounds of both of its parts, and a group has far more splitting tests than
 //! ever matter. So a test waits at first, with a number that is at most its sum and that costs no bound.
@@ -21,7 +24,8 @@ ghost use Rattle.seq_graph.specs.KeptOf.{HasParts, AreTestsOf, IsKeptOf, Evaluat
 
 use crate::greedy::Estimates;
 use crate::numbers::Numbers;
-use seq_inst::{Group, Instance, is_leaf, parts_of, splits, weight_of};
+use seq_inst::{Group, Instance, parts_of, splits, weight_of};
+use std::alloc::Global;
 
 /// A test that splits a group, with the numbers of the part that passes it and the part that fails it.
 #[derive(Clone, Copy, Debug, PartialEq, Eq)]
@@ -38,16 +42,17 @@ pub struct Waiting {
     pub least: u64,
 }
 
-/// A group's number, its weight, its lower bound, what greedy costs over it, and the tests that split it:
-/// those that were evaluated, in the order in which they were, and those that wait, in no order. Tests of
-/// which the sum is above the most may be missing.
+/// A group's number, its weight, its lower bound, and the tests that split it: those that were evaluated, in
+/// the order in which they were, and those that wait, in no order. Tests of which the sum is above the most may
+/// be missing.
 #[derive(Drop)]
 pub struct Node {
     pub number: u32,
     pub weight: u64,
     pub bound: u64,
-    pub greedy: u64,
-    /// `u64::MAX` where the lists had room for all tests.
+    /// Whether the row's up is at most what greedy costs over the group.
+    pub capped: bool,
+    /// `u64::MAX` where the lists had room for all tests, and 0 where no test is listed.
     pub most: u64,
     pub splits: Vec<Split>,
     pub waiting: Vec<Waiting>,
@@ -213,25 +218,50 @@ fn list_waiting(
 }
 
 impl Node {
-    /// What is kept of the group at first: no test is evaluated yet, and those that may cost no more than
-    /// greedy wait. The group gets a number where it has none, and so do the groups of greedy's tree while
-    /// there is room. The lists are emptied first. It takes no memory, unless lists may grow.
-    pub fn of(
-        numbers: &mut Numbers,
-        inst: &Instance,
-        group: &Group,
-        lists: Lists,
-        growth: Growth,
-    ) -> Node
+    /// What is kept of the group at first: no test is listed. The group gets a number where it has none. It takes
+    /// no memory.
+    pub fn of(numbers: &mut Numbers, inst: &Instance, group: &Group, alloc: Global) -> Node
         requires numbers { AreNumbersFor inst.now numbers.old }
         requires within { IsGroupOf inst.now group.now }
         requires held { 0 < numbers.old.held }
         ensures numbers { AreNumbersFor inst.now numbers.new }
         ensures keeps { KeepsNumbers numbers.old numbers.new }
         ensures kept { IsKeptOf (problem_of inst.now) numbers.new (members group.now) result }
-        ensures none { result.splits.items ≡ [] }
         ensures capacity { capacity numbers.new ≡ capacity numbers.old }
         ensures one { numbers.new.held + 1 ≡ numbers.old.held }
+    {
+        let number = numbers.number_of(inst, group);
+        let bound = numbers.bound_at(number);
+        let weight = weight_of(inst, group);
+        Node {
+            number,
+            weight,
+            bound,
+            capped: false,
+            most: 0,
+            splits: Vec::new(alloc),
+            waiting: Vec::new(alloc),
+        }
+    }
+
+    /// Lists the tests of the group: no test is evaluated yet, and those that may cost no more than the cap wait.
+    /// The lists are emptied first. It takes no memory, unless lists may grow.
+    pub(crate) fn list(
+        &mut self,
+        inst: &Instance,
+        group: &Group,
+        estimates: &Estimates,
+        cap: u64,
+        lists: Lists,
+        growth: Growth,
+    )
+        requires within { IsGroupOf inst.now group.now }
+        requires estimates { AreEstimatesFor inst.now group.now estimates.now }
+        ensures tests { (v : Numbered) → AreTestsOf (problem_of inst.now) v (members group.now) (step_sum (problem_of inst.now) (bound_by (problem_of inst.now)) (members group.now)) (min cap self.new.most) self.new.splits.items self.new.waiting.items }
+        ensures number { self.new.number ≡ self.old.number }
+        ensures weight { self.new.weight ≡ self.old.weight }
+        ensures bound { self.new.bound ≡ self.old.bound }
+        ensures capped { self.new.capped ≡ self.old.capped }
     {
         let Lists {
             mut splits,
@@ -239,32 +269,9 @@ impl Node {
         } = lists;
         splits.clear();
         waiting.clear();
-        let number = numbers.number_of(inst, group);
-        let bound = numbers.bound_at(number);
-        let weight = weight_of(inst, group);
-        if is_leaf(inst, group) {
-            return Node {
-                number,
-                weight,
-                bound,
-                greedy: 0,
-                most: u64::MAX,
-                splits,
-                waiting,
-            };
-        }
-        let estimates = numbers.estimates(inst, group);
-        let greedy = numbers.greedy_from(inst, group, Some(&estimates));
-        let most = list_waiting(inst, group, &estimates, greedy, growth, &mut waiting);
-        Node {
-            number,
-            weight,
-            bound,
-            greedy,
-            most,
-            splits,
-            waiting,
-        }
+        self.most = list_waiting(inst, group, estimates, cap, growth, &mut waiting);
+        self.splits = splits;
+        self.waiting = waiting;
     }
 
     /// Evaluates the test that waits at this place of the list, where there is room: its parts get numbers
@@ -296,7 +303,7 @@ impl Node {
         ensures number { self.new.number ≡ self.old.number }
         ensures weight { self.new.weight ≡ self.old.weight }
         ensures bound { self.new.bound ≡ self.old.bound }
-        ensures greedy { self.new.greedy ≡ self.old.greedy }
+        ensures capped { self.new.capped ≡ self.old.capped }
         ensures most { self.new.most ≡ self.old.most }
     {
         if !growth.lets(self.splits.len(), self.splits.capacity()) {

@@ -175,7 +175,7 @@ fn with_up(
     least
 }
 
-/// The least of greedy's cost and of the sums of all splitting tests and the ups of their parts.
+/// The least of the sums of all splitting tests and the ups of their parts: `u64::MAX` where no test has both.
 pub(crate) fn plain_least_up(inst: &Instance, graph: &Graph, place: usize) -> u64
     requires known { IsGraphOf inst.now graph.now }
     requires place { place < length graph.now.rows.items }
@@ -183,7 +183,7 @@ pub(crate) fn plain_least_up(inst: &Instance, graph: &Graph, place: usize) -> u6
 {
     let group = graph.rows[place].group;
     let tests = inst.costs.len() as u32;
-    let mut least = graph.nodes[place].greedy;
+    let mut least = u64::MAX;
     for test in 0..tests {
         least = with_up(inst, graph, place, &group, test, least);
     }

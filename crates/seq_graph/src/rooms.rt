@@ -1,7 +1,8 @@
 //! Room for the groups that are entered. A graph on one thread makes room for one group at a time (`grow`),
 //! and its lists grow while groups are looked at. A graph with room (`Graph::with_room`) has all its memory from
 //! the start, and nothing that is done with it takes any: of several workers none can be left without. Where
-//! its lists or its numbers are full, sums are worked out the plain way: slower, with the same answers.
+//! its lists or its numbers are full, or no list is left for a group, sums are worked out the plain way: slower,
+//! with the same answers.
 //!
 //! How much room is worth its memory depends on how many workers have a graph each. One alone enters all groups
 //! itself, so each list has room for all tests. Of several each enters some. Most groups have few tests that may be
@@ -134,8 +135,8 @@ fn lists_for(
 }
 
 impl Graph {
-    /// Nothing is known yet. There is room for so many groups, and what is done with the graph takes no more
-    /// memory. So many workers have such a graph each. With 256 tests that of one alone takes 11,000 bytes a group
+    /// Nothing is known yet. There is room for so many groups, with lists for each, and what is done with the
+    /// graph takes no more memory. So many workers have such a graph each. With 256 tests that of one alone takes 11,000 bytes a group
     /// at most, that of one of several 4,000, and each 5 MB beside.
     pub fn with_room(
         alloc: Global,

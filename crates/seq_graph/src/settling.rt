@@ -3,23 +3,40 @@
 //! turn, from the smallest groups on: a group's parts have fewer classes than it has, so when its turn
 //! comes theirs are final. A test that the walk left out gives no less than the row's up, and one that
 //! waits counts for the up only where both of its parts have one; so these are evaluated, and no others.
+//! A row that isn't capped by greedy's cost yet is capped by it first, and all its tests are gone over.
 //! All sums are looked up by number, which costs less than half of settling the same rows afresh. A row whose
 //! low and up are equal is settled as it is: what the rows' groups give lies between the two.
 ghost use Rattle.std.specs.Prelude.{◌≡◌, ◌<◌, length, slice_set, IfOk};
 ghost use Rattle.seq_inst.specs.Instances.{problem_of};
 ghost use Rattle.seq_core.specs.Settled.{groups_in, size_at, settled_row, settled_rows, AreSettledBelow};
 ghost use Rattle.seq_graph.specs.Known.{AreSound, row_at, IsGraphOf};
-ghost use Rattle.seq_graph.specs.Settling.{IsSettledUp};
+ghost use Rattle.seq_graph.specs.Settling.{IsGreedyCap, IsSettledUp};
 
 use crate::bounds::{Bounds, bounds_by};
 use crate::choice::least_test;
 use crate::events::note;
 use crate::graph::Graph;
+use crate::learning::greedys_cost;
 use crate::look::look_at_all;
 use crate::plain::plain_least_up;
 use seq_core::{smallest_first, turns_settle};
 use seq_inst::Instance;
 use std::alloc::{AllocError, Global};
+
+/// What greedy costs over a group, where its row may be above that: `u64::MAX` where it is capped already.
+fn greedy_cap(inst: &Instance, graph: &mut Graph, place: usize) -> u64
+    requires known { IsGraphOf inst.now graph.old }
+    requires place { place < length graph.old.rows.items }
+    ensures known { IsGraphOf inst.now graph.new }
+    ensures rows { graph.new.rows ≡ graph.old.rows }
+    ensures cap { IsGreedyCap (problem_of inst.now) graph.new.rows.items place result }
+{
+    if graph.nodes[place].capped {
+        return u64::MAX;
+    }
+    let group = graph.rows[place].group;
+    greedys_cost(inst, graph, &group, None)
+}
 
 /// The least of what the tests of a group give for an up: by the evaluated ones, where the others give no less.
 fn settled_up(inst: &Instance, graph: &Graph, place: usize, up: u64, looked: bool) -> u64
@@ -48,13 +65,14 @@ fn settle_row(inst: &Instance, graph: &mut Graph, place: usize)
     if row.low == row.up {
         return;
     }
+    let greedy = greedy_cap(inst, graph, place);
     let least = least_test(inst, graph, place);
     let looked = look_at_all(inst, graph, place);
     let bounds = bounds_by(inst, graph, place, least);
     let up = settled_up(inst, graph, place, bounds.up, looked);
     let settled = Bounds {
         low: bounds.low,
-        up,
+        up: up.min(greedy),
     };
     note(inst, graph, place, settled);
 }

@@ -2,9 +2,8 @@ use Rattle.std.proofs.Common.{◌∙◌, ◌+◌, ◌∷◌, arith, ap, sym, get
 use Rattle.std.specs.List.{filter_map}
 use Rattle.std.proofs.lemmas.List.{map_more}
 use Rattle.seq_theory.specs.Problem.{least_of}
-use Rattle.seq_theory.specs.Greedy.{greedy_cost}
 use Rattle.seq_theory.specs.Graph.{step_value}
-use Rattle.seq_theory.specs.Rows.{known_up}
+use Rattle.seq_theory.specs.Rows.{no_value, known_up}
 use Rattle.seq_inst.specs.Members.{members}
 use Rattle.seq_inst.specs.Instances.{problem_of}
 use Rattle.seq_graph.specs.declared.node.Split.{Split}
@@ -14,13 +13,6 @@ use Rattle.seq_graph.proofs.ChoiceLaws.{least_value-more}
 use Rattle.seq_graph.proofs.CountLaws.{kept-read}
 use Rattle.seq_graph.proofs.SplitLaws.{split-at, splits-read}
 use Rattle.seq_graph.proofs.choice.least_up.Goals as goal
-
-pub loop-split-init : goal.loop-split-init
-loop-split-init c =
-    let s = c.args.graph.now in
-    let p = problem_of c.args.inst.now in
-    let kept = kept-read p s.numbers s.rows.items s.nodes.items s.counts.items c.requires.known c.args.place c.index-2.result.now c.requires.place c.index-2.ensures in
-    kept.greedy
 
 pub up_sum-requires-clause-parts : goal.up_sum-requires-clause-parts
 up_sum-requires-clause-parts c =
@@ -49,7 +41,7 @@ loop-split-preserved c =
     let split : Split = get_or xs i (record { test = 0; pass = 0; fail = 0 }) in
     let f = step_value p (known_up p (rows_from s.rows.items)) g in
     c.lesser_of-least.ensures
-    ∙ least_value-more f (greedy_cost p g) c.loop-split.least split.test (map (λ (x : Split). x.test) (take i xs)) (map (λ (x : Split). x.test) (take (i + 1) xs)) c.loop-split.invariant
+    ∙ least_value-more f no_value c.loop-split.least split.test (map (λ (x : Split). x.test) (take i xs)) (map (λ (x : Split). x.test) (take (i + 1) xs)) c.loop-split.invariant
     (map_more (λ (x : Split). x.test) xs i (record { test = 0; pass = 0; fail = 0 }) c.loop-split-test.true) c.up_sum.result c.up_sum.ensures
 
 pub returns : goal.returns
@@ -64,4 +56,4 @@ returns c =
     let place = c.requires.place in
     let read = splits-read s.nodes.items c.args.place c.index.result.now (omega arith) c.index.ensures in
     c.loop-split.invariant
-    ∙ ap (λ l. least_of (greedy_cost p g ∷ filter_map v (map (λ (x : Split). x.test) l))) (take_all c.loop-split.split-index xs c.loop-split-test.false ∙ c.as_slice-splits.ensures.value ∙ sym read)
+    ∙ ap (λ l. least_of (no_value ∷ filter_map v (map (λ (x : Split). x.test) l))) (take_all c.loop-split.split-index xs c.loop-split-test.false ∙ c.as_slice-splits.ensures.value ∙ sym read)

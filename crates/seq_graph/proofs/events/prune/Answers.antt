@@ -23,5 +23,5 @@ returns-clause-known c =
     let up = c.index.result.now.up in
     let read = get_or_read s.rows.items c.args.place c.index.result.now c.requires.place c.index.ensures no_row in
     thinned-known inst s.numbers s.rows.items s.nodes.items s.counts.items c.requires.known c.args.place c.requires.place k c.index_mut-kept.ensures.value
-    (record { number = k.number; weight = k.weight; bound = k.bound; greedy = k.greedy; most = k.most; splits = c.leave_out.new.splits; waiting = c.leave_out_waiting.new.waiting }) up (ap (λ (r : Row). r.up) read) refl refl refl refl refl
+    (record { number = k.number; weight = k.weight; bound = k.bound; capped = k.capped; most = k.most; splits = c.leave_out.new.splits; waiting = c.leave_out_waiting.new.waiting }) up (ap (λ (r : Row). r.up) read) refl refl refl refl refl
     (c.leave_out.ensures ∙ ap (λ l. filter (λ (x : Split). nat_le (counted_sum inst.costs.items k.weight l x) up) k.splits.items) c.as_slice.ensures.value) c.leave_out_waiting.ensures

@@ -1,4 +1,4 @@
-use Rattle.std.proofs.Common.{◌≡◌, ◌∙◌, sym, ap, arith, refl, subst}
+use Rattle.std.proofs.Common.{◌≡◌, ◌∙◌, sym, ap, arith, refl}
 use Rattle.seq_theory.specs.Rows.{known_low}
 use Rattle.seq_inst.specs.Members.{members}
 use Rattle.seq_inst.specs.Instances.{problem_of}
@@ -35,7 +35,7 @@ pub returns-in-None-clause-keeps : goal.returns-in-None-clause-keeps
 returns-in-None-clause-keeps c =
     let held = ap (λ (v : Numbered). v.held) c.bound_within.ensures.same in
     let all = c.bound_within.ensures.room.all in
-    keeps-room _ _ refl (omega arith) refl (omega arith) (omega arith) (omega arith) (λ le. omega arith)
+    keeps-room _ _ refl (omega arith) refl (omega arith) (omega arith) (λ le. omega arith)
 
 pub returns-in-None-clause-value : goal.returns-in-None-clause-value
 returns-in-None-clause-value c =

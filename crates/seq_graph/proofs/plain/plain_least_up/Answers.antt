@@ -1,18 +1,14 @@
-use Rattle.std.proofs.Common.{◌≡◌, ◌∙◌, ◌<◌, length, sym, ap, arith, refl, subst}
+use Rattle.std.proofs.Common.{◌∙◌, ap, arith}
 use Rattle.std.proofs.lemmas.List.{get_or_read}
 use Rattle.seq_inst.specs.Instances.{problem_of}
 use Rattle.seq_inst.specs.declared.outcome.Row.{Row}
 use Rattle.seq_graph.specs.Known.{no_row}
-use Rattle.seq_graph.proofs.CountLaws.{kept-read}
 use Rattle.seq_graph.proofs.PlainLaws.{up-none, up-all}
 use Rattle.seq_graph.proofs.plain.plain_least_up.Goals as goal
 
 pub loop-test-init : goal.loop-test-init
 loop-test-init c =
-    let s = c.args.graph.now in
-    let p = problem_of c.args.inst.now in
-    let of = kept-read p s.numbers s.rows.items s.nodes.items s.counts.items c.requires.known c.args.place c.index-2.result.now c.requires.place c.index-2.ensures in
-    up-none p s.rows.items c.args.place c.index-2.result.now.greedy of.greedy
+    up-none (problem_of c.args.inst.now) c.args.graph.now.rows.items c.args.place
 
 pub with_up-least-requires-clause-group : goal.with_up-least-requires-clause-group
 with_up-least-requires-clause-group c = ap (λ (r : Row). r.group) (get_or_read c.args.graph.now.rows.items c.args.place c.index.result.now c.requires.place c.index.ensures no_row)

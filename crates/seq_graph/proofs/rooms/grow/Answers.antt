@@ -1,7 +1,4 @@
-use Rattle.std.proofs.Common.{◌≡◌, ◌∙◌, ◌+◌, ◌≤◌, length, sym, ap, arith, refl, subst, vec_capacity}
-use Rattle.seq_inst.specs.Instances.{problem_of}
-use Rattle.seq_graph.specs.Known.{AreKnown}
-use Rattle.seq_graph.proofs.RoomLaws.{keeps-room, keeps-room-both}
+use Rattle.std.proofs.Common.{length, ap, arith, vec_capacity}
 use Rattle.seq_graph.proofs.rooms.grow.Goals as goal
 
 pub returns-clause-room : goal.returns-clause-room
@@ -12,17 +9,14 @@ returns-clause-room c =
     let rows_room = ap vec_capacity e.rows in
     let nodes = ap (λ v. length v.items) e.nodes in
     let nodes_room = ap vec_capacity e.nodes in
-    let lists = ap (λ v. length v.items) e.lists in
     let a = c.in_ok-reserve.ensures.ok in
     let a1 = c.reserve.new.self.ok.0 in
     let b = c.in_ok-reserve-2.ensures.ok in
     let b1 = c.reserve-2.new.self.ok.0 in
-    let d = c.in_ok-make_lists.ensures.some in
     let h = o.held in
     record {
       rows = omega arith;
       nodes = omega arith;
-      lists = omega arith;
       numbers = omega arith;
       counts = o.counts;
     }
@@ -34,14 +28,11 @@ returns-in_err-reserve_numbers-clause-keeps c =
     let rows_room = c.reserve.ensures.capacity in
     let nodes = ap length c.reserve-2.ensures.items in
     let nodes_room = c.reserve-2.ensures.capacity in
-    let lists = c.make_lists.ensures.more in
     let x = room.rows in
     let y = room.nodes in
-    let z = room.lists in
     c.reserve_numbers.ensures.keeps more (record {
       rows = omega arith;
       nodes = omega arith;
-      lists = omega arith;
       numbers = room.numbers;
       counts = room.counts;
     })
@@ -53,14 +44,11 @@ returns-clause-keeps c =
     let rows_room = c.reserve.ensures.capacity in
     let nodes = ap length c.reserve-2.ensures.items in
     let nodes_room = c.reserve-2.ensures.capacity in
-    let lists = c.make_lists.ensures.more in
     let x = room.rows in
     let y = room.nodes in
-    let z = room.lists in
     c.reserve_numbers.ensures.keeps more (record {
       rows = omega arith;
       nodes = omega arith;
-      lists = omega arith;
       numbers = room.numbers;
       counts = room.counts;
     })

@@ -7,6 +7,8 @@ use Rattle.seq_inst.specs.Instances.{problem_of}
 use Rattle.seq_core.specs.RowsOf.{rows_of as rows_from}
 use Rattle.seq_core.specs.Settled.{groups_in, size_at, settled_row, AreSettledBelow}
 use Rattle.seq_graph.specs.Known.{AreSound, Allow, no_row, row_at, group_at, heard}
+use Rattle.seq_graph.specs.Settling.{IsGreedyCap}
+use Rattle.seq_graph.proofs.KnownLaws.{row-within}
 use Rattle.seq_graph.proofs.BoundsLaws.{allowed-right}
 use Rattle.seq_graph.proofs.SettleLaws.{tightened-settled, settled-allowed, closed-set}
 use Rattle.seq_graph.proofs.settling.settle_row.Goals as goal
@@ -22,30 +24,37 @@ note-requires-clause-right c =
     let p = problem_of c.args.inst.now in
     let s = c.look_at_all-looked.new.graph in
     let b = c.bounds_by-bounds in
-    let same = ap (λ v. v.items) (c.look_at_all-looked.ensures.rows ∙ c.least_test-least.ensures.rows) in
+    let looked = ap (λ v. v.items) (c.look_at_all-looked.ensures.rows ∙ c.least_test-least.ensures.rows) in
+    let same = looked ∙ ap (λ v. v.items) c.greedy_cap-greedy.ensures.rows in
     let long = ap length same in
     let there = c.requires.place in
-    allowed-right c.args.inst.now s.rows.items c.look_at_all-looked.ensures.known.rows_are c.args.place (omega arith) b.result.low c.settled_up-up.result
-    (settled-allowed p s.rows.items s.nodes.items c.args.place c.look_at_all-looked.result b.result.low b.result.up c.settled_up-up.result b.ensures.allowed c.settled_up-up.ensures)
+    let known = c.look_at_all-looked.ensures.known.rows_are in
+    let cap = subst (λ l. IsGreedyCap p l c.args.place c.greedy_cap-greedy.result) (sym looked) c.greedy_cap-greedy.ensures.cap in
+    let allow = settled-allowed c.args.inst.now s.rows.items s.nodes.items c.args.place c.look_at_all-looked.result b.result.low b.result.up c.settled_up-up.result c.greedy_cap-greedy.result (row-within p s.rows.items known c.args.place (omega arith)) b.ensures.allowed c.settled_up-up.ensures cap in
+    allowed-right c.args.inst.now s.rows.items known c.args.place (omega arith) b.result.low c.min.result
+    (subst (Allow p s.rows.items (members (group_at s.rows.items c.args.place)) b.result.low) (sym c.min.ensures) allow)
 
 pub returns-clause-rows : goal.returns-clause-rows
 returns-clause-rows c =
     let p = problem_of c.args.inst.now in
     let place = c.args.place in
     let s = c.look_at_all-looked.new.graph in
-    let same = ap (λ v. v.items) (c.look_at_all-looked.ensures.rows ∙ c.least_test-least.ensures.rows) in
+    let looked = ap (λ v. v.items) (c.look_at_all-looked.ensures.rows ∙ c.least_test-least.ensures.rows) in
+    let same = looked ∙ ap (λ v. v.items) c.greedy_cap-greedy.ensures.rows in
     let long = ap length same in
     let there = c.requires.place in
     let below = subst (λ l. AreSettledBelow p l (size_at l place)) (sym same) c.requires.below in
     let turn = c.turns_settle.ensures.turn c.args.inst.now (length s.rows.items) s.rows.items place (subst (AreSound p) (sym same) c.requires.sound) (omega arith) below in
     let b = c.bounds_by-bounds in
     let up_is = b.ensures.up in
-    let row = tightened-settled c.args.inst.now s.numbers s.rows.items s.nodes.items s.counts.items c.look_at_all-looked.ensures.known place (omega arith) turn c.look_at_all-looked.result b.result.up c.settled_up-up.result c.look_at_all-looked.ensures.valued
-    b.ensures.allowed.up_allowed (omega arith) c.settled_up-up.ensures in
+    let cap = subst (λ l. IsGreedyCap p l place c.greedy_cap-greedy.result) (sym looked) c.greedy_cap-greedy.ensures.cap in
+    let row = tightened-settled c.args.inst.now s.numbers s.rows.items s.nodes.items s.counts.items c.look_at_all-looked.ensures.known place (omega arith) turn c.look_at_all-looked.result b.result.up c.settled_up-up.result c.greedy_cap-greedy.result c.look_at_all-looked.ensures.valued
+    b.ensures.allowed.up_allowed (omega arith) c.settled_up-up.ensures cap in
     let rows = s.rows.items in
     let r = row_at rows place in
     c.note.ensures.rows
-    ∙ ap (λ n. set rows place (heard n c.settled_up-up.result r)) b.ensures.low
+    ∙ ap (λ n. set rows place (heard n c.min.result r)) b.ensures.low
+    ∙ ap (λ n. set rows place (heard (most_low p (rows_from rows) (members r.group)) n r)) c.min.ensures
     ∙ ap (set rows place) row ∙ ap (λ l. set l place (settled_row p (groups_in l) (row_at l place))) same
 
 pub returns-clause-sound : goal.returns-clause-sound
@@ -53,6 +62,11 @@ returns-clause-sound c =
     let p = problem_of c.args.inst.now in
     let s = c.look_at_all-looked.new.graph in
     let b = c.bounds_by-bounds in
-    let same = ap (λ v. v.items) (c.look_at_all-looked.ensures.rows ∙ c.least_test-least.ensures.rows) in
-    c.note.ensures.sound (settled-allowed p s.rows.items s.nodes.items c.args.place c.look_at_all-looked.result b.result.low b.result.up c.settled_up-up.result b.ensures.allowed c.settled_up-up.ensures)
+    let looked = ap (λ v. v.items) (c.look_at_all-looked.ensures.rows ∙ c.least_test-least.ensures.rows) in
+    let same = looked ∙ ap (λ v. v.items) c.greedy_cap-greedy.ensures.rows in
+    let long = ap length same in
+    let there = c.requires.place in
+    let cap = subst (λ l. IsGreedyCap p l c.args.place c.greedy_cap-greedy.result) (sym looked) c.greedy_cap-greedy.ensures.cap in
+    let allow = settled-allowed c.args.inst.now s.rows.items s.nodes.items c.args.place c.look_at_all-looked.result b.result.low b.result.up c.settled_up-up.result c.greedy_cap-greedy.result (row-within p s.rows.items c.look_at_all-looked.ensures.known.rows_are c.args.place (omega arith)) b.ensures.allowed c.settled_up-up.ensures cap in
+    c.note.ensures.sound (subst (Allow p s.rows.items (members (group_at s.rows.items c.args.place)) b.result.low) (sym c.min.ensures) allow)
     (subst (AreSound p) (sym same) c.requires.sound)

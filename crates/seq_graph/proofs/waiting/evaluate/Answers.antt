@@ -1,4 +1,4 @@
-use Rattle.std.proofs.Common.{◌∙◌, ◌-◌, ◌<◌, ◌≤◌, refl, vec_capacity, ◌∷◌, ◌++◌, [], length, take, set, get_or, sym, ap, subst, arith}
+use Rattle.std.proofs.Common.{◌∙◌, ◌-◌, ◌<◌, ◌∷◌, ◌++◌, [], length, take, set, get_or, sym, ap, subst, arith}
 use Rattle.std.proofs.Math.ListN.{length-set}
 use Rattle.std.specs.Prelude.{All}
 use Rattle.std.proofs.lemmas.Option.{slice_get_within}
@@ -83,7 +83,7 @@ returns-then-done-clause-known c =
     let e = c.evaluate-done.ensures in
     let read = get_or_read s.rows.items c.args.place c.index.result.now place c.index.ensures no_row in
     evaluated-known c.args.inst.now s.numbers c.evaluate-done.new.numbers s.rows.items s.nodes.items s.counts.items mr.known e.numbers e.keeps c.args.place k c.evaluate-done.new.self c.count_new.new.counts.items
-    place c.index_mut.ensures.value e.number e.weight e.bound e.greedy e.most (subst (λ (r : Row). KeepsTests p s.numbers c.evaluate-done.new.numbers (members r.group) k c.evaluate-done.new.self) read e.tests) c.count_new.ensures.counts
+    place c.index_mut.ensures.value e.number e.weight e.bound e.capped e.most (subst (λ (r : Row). KeepsTests p s.numbers c.evaluate-done.new.numbers (members r.group) k c.evaluate-done.new.self) read e.tests) c.count_new.ensures.counts
 
 pub returns-then-done-clause-fewer : goal.returns-then-done-clause-fewer
 returns-then-done-clause-fewer c =
@@ -149,7 +149,7 @@ returns-clause-known c =
     let e = c.evaluate-done.ensures in
     let read = get_or_read s.rows.items c.args.place c.index.result.now place c.index.ensures no_row in
     evaluated-known c.args.inst.now s.numbers c.evaluate-done.new.numbers s.rows.items s.nodes.items s.counts.items mr.known e.numbers e.keeps c.args.place k c.evaluate-done.new.self c.count_new.new.counts.items
-    place c.index_mut.ensures.value e.number e.weight e.bound e.greedy e.most (subst (λ (r : Row). KeepsTests p s.numbers c.evaluate-done.new.numbers (members r.group) k c.evaluate-done.new.self) read e.tests) c.count_new.ensures.counts
+    place c.index_mut.ensures.value e.number e.weight e.bound e.capped e.most (subst (λ (r : Row). KeepsTests p s.numbers c.evaluate-done.new.numbers (members r.group) k c.evaluate-done.new.self) read e.tests) c.count_new.ensures.counts
 
 pub returns-then-done-clause-keeps : goal.returns-then-done-clause-keeps
 returns-then-done-clause-keeps c =
@@ -167,7 +167,6 @@ returns-then-done-clause-keeps c =
     record {
       rows = r.rows;
       nodes = omega arith;
-      lists = r.lists;
       numbers = omega arith;
       counts = omega arith;
     }
@@ -188,7 +187,6 @@ returns-clause-keeps c =
     record {
       rows = r.rows;
       nodes = omega arith;
-      lists = r.lists;
       numbers = omega arith;
       counts = omega arith;
     }

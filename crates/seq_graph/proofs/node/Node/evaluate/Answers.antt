@@ -41,14 +41,14 @@ returns-clause-evaluated c = λ done.
 
 pub returns-then-is_err-clause-tests : goal.returns-then-is_err-clause-tests
 returns-then-is_err-clause-tests c =
-    same-keeps (problem_of c.args.inst.now) (members c.args.group.now) c.args.numbers.now c.split_by.new.numbers c.args.self.now (record { number = c.args.self.now.number; weight = c.args.self.now.weight; bound = c.args.self.now.bound; greedy = c.args.self.now.greedy; most = c.args.self.now.most; splits = c.push.new.self; waiting = c.args.self.now.waiting }) c.split_by.ensures.keeps
+    same-keeps (problem_of c.args.inst.now) (members c.args.group.now) c.args.numbers.now c.split_by.new.numbers c.args.self.now (record { number = c.args.self.now.number; weight = c.args.self.now.weight; bound = c.args.self.now.bound; capped = c.args.self.now.capped; most = c.args.self.now.most; splits = c.push.new.self; waiting = c.args.self.now.waiting }) c.split_by.ensures.keeps
     (push-kept c.push.result c.args.self.now.splits.items c.push.new.self.items c.in-Some.split (sym c.is_err.ensures.value ∙ c.if-is_err.true) c.push.ensures.items) refl
 
 pub returns-clause-tests : goal.returns-clause-tests
 returns-clause-tests c =
     let many = c.args.self.now.waiting.ok.0 in
     let there : c.args.at < length c.args.self.now.waiting.items = omega arith in
-    evaluated-keeps (problem_of c.args.inst.now) (members c.args.group.now) c.args.numbers.now c.split_by.new.numbers c.split_by.ensures.keeps c.args.at c.args.self.now (record { number = c.args.self.now.number; weight = c.args.self.now.weight; bound = c.args.self.now.bound; greedy = c.args.self.now.greedy; most = c.args.self.now.most; splits = c.push.new.self; waiting = c.swap_remove.new.self }) (record {
+    evaluated-keeps (problem_of c.args.inst.now) (members c.args.group.now) c.args.numbers.now c.split_by.new.numbers c.split_by.ensures.keeps c.args.at c.args.self.now (record { number = c.args.self.now.number; weight = c.args.self.now.weight; bound = c.args.self.now.bound; capped = c.args.self.now.capped; most = c.args.self.now.most; splits = c.push.new.self; waiting = c.swap_remove.new.self }) (record {
       entry = c.swap_remove.result;
       split = c.in-Some.split;
       waited = slice_get_read c.args.self.now.waiting.items (length c.args.self.now.waiting.items) c.args.at c.swap_remove.result refl there c.swap_remove.ensures.value;
