@@ -12,12 +12,14 @@
 //! time of a long certificate: at most 512 look-ups and 512 bounds each.
 #![tactic(auto)]
 
+mod below;
 mod claim;
 mod gap;
 mod groups;
 mod head;
 mod last;
 mod laws;
+mod listing;
 mod looking;
 mod lows;
 mod missed;

@@ -15,7 +15,7 @@ ghost use Rattle.seq_check.specs.Shown.{Judges, Shows};
 
 use crate::groups::first_in_groups;
 use crate::head::first_in_head;
-use crate::lows::lows_of;
+use crate::listing::listing_of;
 use crate::missed::first_in_missed;
 use crate::model::{first_in_classes, first_in_tests};
 use crate::places::{Places, places_of};
@@ -43,12 +43,12 @@ fn first_from_groups(
     let mut scratch = Scratch::new();
     let lines = report.groups.as_slice();
     let order = Order::of(alloc, inst)?;
-    let lows = lows_of(alloc, lines)?;
+    let listing = listing_of(alloc, &mut scratch, &order, inst, lines)?;
     let bad = first_in_groups(
         &mut scratch,
         &order,
         inst,
-        &lows,
+        &listing,
         report.low,
         lines,
         places.groups,
@@ -56,7 +56,7 @@ fn first_from_groups(
     if bad.is_some() {
         return Ok(bad);
     }
-    Ok(first_in_missed(inst, &lows, report.missed, places.missed))
+    Ok(first_in_missed(inst, &listing.lows, report.missed, places.missed))
 }
 
 /// The first bad line from the tree on, which was walked.
