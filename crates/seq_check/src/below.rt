@@ -1,8 +1,8 @@
-//! The listed groups of which a line claims less than their bound. A low is worked out from the bound
-//! upwards, so a search writes no such line, and the set is empty. But a claim of less is no lie, and such a
-//! line is good. Of any group that isn't in the set it is known without a look at the lines that it counts
-//! at least its bound, and an estimate that is made from bounds may stand for the sum over what the parts of
-//! a test count.
+//! The listed groups of which a line claims less than their bound. A search begins a low with the bound and
+//! only raises it, so it writes no such line, and the set is empty. But whoever writes a certificate may claim
+//! less, and such a line is good. Of any group outside the set it is known without a look at the lines that it
+//! counts at least its bound. So an estimate that is at most the sum over the bounds of a test's parts is at
+//! most the sum over what they count. A set and no flag, since one such line would turn a flag.
 ghost use Rattle.std.specs.Prelude.{◌≡◌, ◌≤◌, IfOk, OnOk, List, ◌∷◌, [], ◌++◌, true};
 ghost use Rattle.seq_theory.specs.Problem.{Problem};
 ghost use Rattle.seq_theory.specs.Bound.{bound as bound_of};

@@ -1,9 +1,9 @@
 //! C07: whether a group line claims no more than its group's bound and the other lines allow. A listed
 //! part counts by the low that its first line claims, whatever its bound; that low may be any number, so
 //! the sums are of 128 bits. A part that isn't listed counts by its bound, which costs far more than a
-//! look-up and an estimate of a test's sum together. So the estimate is asked first, unless of one of the
-//! parts less than its bound is claimed: it is at most the sum over the bounds of both parts, and where it is
-//! as much as the line claims, nothing is looked up and no bound is taken. Few tests are left.
+//! look-up and an estimate of a test's sum together. So the estimate comes first: it is at most the sum over
+//! the bounds of both parts, and where it is as much as the line claims, it is enough, and neither low is
+//! looked up. It may not stand in for a part of which less than its bound is claimed.
 ghost use Rattle.std.specs.Prelude.{◌≡◌, ◌<◌, List, true, cond, nat_le, unwrap_or, vec_len};
 ghost use Rattle.seq_theory.specs.Problem.{is_end, splits as is_split, weight_of as weight_sum};
 ghost use Rattle.seq_theory.specs.Bound.{bound as bound_of, step_sum};

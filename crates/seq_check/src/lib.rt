@@ -5,11 +5,14 @@
 //! and its cost, and a number that no right strategy undercuts.
 //!
 //! What a line costs: one of the head, of a class, a state or a test is one comparison with the model. An
-//! `ask` takes the weight and both parts of its group, and a `leaf` the class that it names. A group
-//! line takes, for each test that splits its group, two look-ups of a part, and for a part that isn't
-//! listed its bound, unless a cheaper estimate shows that the sum is enough. The weights of the classes
-//! and the costs of the tests are put in order once, so that no bound sorts. The group lines make up the
-//! time of a long certificate: at most 512 look-ups and 512 bounds each.
+//! `ask` takes the weight and both parts of its group, and a `leaf` the class that it names. The weights of
+//! the classes and the costs of the tests are put in order once, so that no bound sorts. The group lines make
+//! up the time of a long certificate. Before they are looked at, the bound of each tells which of them claim
+//! less than their bound. A line then takes the bound of its group, and where it claims more, an estimate for
+//! each test that splits the group. The estimate tells of most tests that their sum is enough; each other takes
+//! a look-up of both parts, and the bound of a part that isn't listed. So a usual line takes two bounds and an
+//! estimate a test. What a certificate can be made to cost is, a line and test, four look-ups, an estimate and
+//! two bounds.
 #![tactic(auto)]
 
 mod below;

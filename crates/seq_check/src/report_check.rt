@@ -138,9 +138,9 @@ fn first_bad_line(
 /// The report's verdict, where no line is bad; else the first bad line with the lowest code that it
 /// breaks. Whoever made the report is not trusted.
 ///
-/// The work is at most that of putting the weights and the costs in order once, and of the bounds of all
-/// listed groups and of their parts by splitting tests: for each group line two look-ups a splitting test,
-/// and at most a bound for each part that is not listed.
+/// The work is at most that of putting the weights and the costs in order once, of two bounds for each group
+/// line, and for each splitting test of its group of four look-ups, an estimate, and a bound of each part that
+/// is not listed. Of a certificate that a search made, nearly all tests take the estimate alone.
 pub fn check(
     alloc: Global,
     inst: &Instance,
