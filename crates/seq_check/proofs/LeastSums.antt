@@ -1,13 +1,12 @@
 -- The least sum over the splitting tests, test by test.
 use Rattle.std.proofs.Common.{◌≡◌, ℕ, ◌+◌, ◌*◌, ◌<◌, ◌≤◌, List, [], ◌∷◌, map, refl, sym, ap, subst, ◌∙◌, arith, inl, inr, ◌⊎◌}
-use Rattle.std.specs.Prelude.{Bool, true, false, cond, nat_le, filter, unwrap_or, is_some, Option, Some, None}
+use Rattle.std.specs.Prelude.{Bool, true, false, cond, nat_le, filter, unwrap_or, Option}
 use Rattle.std.proofs.lemmas.Bool.{cases_lt, false≢true, true≢false, leb-true, leb-false}
 use Rattle.std.proofs.lemmas.Bool.Decides.{nat_tests}
 use Rattle.seq_theory.specs.Problem.{Problem, IsIn, count_up, pass_part, fail_part, weight_of, is_end, splits, splitting, least_of}
 use Rattle.seq_theory.specs.Bound.{bound, step_sum}
 use Rattle.seq_theory.specs.Claims.{Claim, claim_of, claimed}
 use Rattle.seq_theory.proofs.GroupLaws.{IsIn-filter, filter-IsIn, filter_passes}
-use Rattle.seq_theory.proofs.GreedyLaws.{bound-end}
 use Rattle.seq_theory.proofs.LeastLaws.{IsIn-count_up, count_up-IsIn, least_of-le, least_of-found}
 use Rattle.seq_check.specs.GroupLooks.{most_claimed}
 
