@@ -9,10 +9,9 @@
 //! the classes and the costs of the tests are put in order once, so that no bound sorts. The group lines make
 //! up the time of a long certificate. Before they are looked at, the bound of each tells which of them claim
 //! less than their bound. A line then takes the bound of its group, and where it claims more, an estimate for
-//! each test that splits the group. The estimate tells of most tests that their sum is enough; each other takes
-//! a look-up of both parts, and the bound of a part that isn't listed. So a usual line takes two bounds and an
-//! estimate a test. What a certificate can be made to cost is, a line and test, four look-ups, an estimate and
-//! two bounds.
+//! each test that splits the group. Where that shows that the test's sum is enough, nothing more is asked;
+//! else both parts are looked up, and the bound of a part that isn't listed is taken. So a certificate costs
+//! at most two bounds a line, and four look-ups, an estimate and two bounds a line and test.
 #![tactic(auto)]
 
 mod below;

@@ -140,7 +140,7 @@ fn first_bad_line(
 ///
 /// The work is at most that of putting the weights and the costs in order once, of two bounds for each group
 /// line, and for each splitting test of its group of four look-ups, an estimate, and a bound of each part that
-/// is not listed. Of a certificate that a search made, nearly all tests take the estimate alone.
+/// is not listed. Where the estimate is enough, a test takes no low and no bound.
 pub fn check(
     alloc: Global,
     inst: &Instance,
