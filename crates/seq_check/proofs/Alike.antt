@@ -43,9 +43,13 @@ no_lows m empty g w = ap (lookup (λ k. is_eq (slice_cmp nat_cmp g.0 k))) empty
 claims-push : (lines : List GroupLine) (line : GroupLine) → claims_of (lines ++ line ∷ []) ≡ claims_of lines ++ claim_at line ∷ []
 claims-push lines line = map-append claim_at lines (line ∷ [])
 
+-- what is claimed with one more line
+pub claim_of-later : (lines : List GroupLine) (line : GroupLine) (g : Group) → claim_of (claims_of (lines ++ line ∷ [])) (members g) ≡ cond (is_some (claim_of (claims_of lines) (members g))) (claim_of (claims_of lines) (members g)) (cond (same_group (members g) (members line.group)) (Some line.low) None)
+claim_of-later lines line g = ap (λ cs. claim_of cs (members g)) (claims-push lines line) ∙ claim_of-append (claims_of lines) (claim_at line) (members g)
+
 module _ (old : BTreeMap (List ℕ) ℕ) (lines : List GroupLine) (line : GroupLine) (law : SameWordsHold) (w : IsWords line.group) (are : AreLows old lines) where
   later : (g : Group) → claim_of (claims_of (lines ++ line ∷ [])) (members g) ≡ cond (is_some (claim_of (claims_of lines) (members g))) (claim_of (claims_of lines) (members g)) (cond (same_group (members g) (members line.group)) (Some line.low) None)
-  later g = ap (λ cs. claim_of cs (members g)) (claims-push lines line) ∙ claim_of-append (claims_of lines) (claim_at line) (members g)
+  later g = claim_of-later lines line g
 
   -- the line's group is new
   pub noted : (new : BTreeMap (List ℕ) ℕ) → false ≡ is_some (get (slice_cmp nat_cmp) old line.group.0) → ((q : List ℕ) → get (slice_cmp nat_cmp) new q ≡ cond (is_eq (slice_cmp nat_cmp line.group.0 q)) (Some line.low) (get (slice_cmp nat_cmp) old q)) → AreLows new (lines ++ line ∷ [])

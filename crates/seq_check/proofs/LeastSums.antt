@@ -1,13 +1,12 @@
 -- The least sum over the splitting tests, test by test.
 use Rattle.std.proofs.Common.{◌≡◌, ℕ, ◌+◌, ◌*◌, ◌<◌, ◌≤◌, List, [], ◌∷◌, map, refl, sym, ap, subst, ◌∙◌, arith, inl, inr, ◌⊎◌}
-use Rattle.std.specs.Prelude.{Bool, true, false, cond, nat_le, filter, unwrap_or, is_some, Option, Some, None}
+use Rattle.std.specs.Prelude.{Bool, true, false, cond, nat_le, filter, unwrap_or, Option}
 use Rattle.std.proofs.lemmas.Bool.{cases_lt, false≢true, true≢false, leb-true, leb-false}
 use Rattle.std.proofs.lemmas.Bool.Decides.{nat_tests}
 use Rattle.seq_theory.specs.Problem.{Problem, IsIn, count_up, pass_part, fail_part, weight_of, is_end, splits, splitting, least_of}
 use Rattle.seq_theory.specs.Bound.{bound, step_sum}
 use Rattle.seq_theory.specs.Claims.{Claim, claim_of, claimed}
 use Rattle.seq_theory.proofs.GroupLaws.{IsIn-filter, filter-IsIn, filter_passes}
-use Rattle.seq_theory.proofs.GreedyLaws.{bound-end}
 use Rattle.seq_theory.proofs.LeastLaws.{IsIn-count_up, count_up-IsIn, least_of-le, least_of-found}
 use Rattle.seq_check.specs.GroupLooks.{most_claimed}
 
@@ -80,24 +79,12 @@ module _ (p : Problem) (l : List ℕ → ℕ) (group : List ℕ) (low : ℕ) whe
       at_or_below : (t n : ℕ) → t < n + 1 → (n ≡ t) ⊎ (t < n)
       at_or_below t n lt = elim (cases_lt t n) [ inl below ↦ inr below | inr ge ↦ (let e : n ≡ t = omega arith in inl e) ]
 
--- a part that isn't listed counts its bound
-unlisted : (p : Problem) (claims : List Claim) (group : List ℕ) → claim_of claims group ≡ None → claimed p claims group ≡ bound p group
-unlisted p claims group none = go (is_end p group) refl
-  where
-    go : (b : Bool) → is_end p group ≡ b → claimed p claims group ≡ bound p group
-    go true e = ap (λ b. cond b 0 (unwrap_or (claim_of claims group) (bound p group))) e ∙ sym (bound-end p group e)
-    go false e = ap (λ b. cond b 0 (unwrap_or (claim_of claims group) (bound p group))) e ∙ ap (λ o. unwrap_or o (bound p group)) none
-
-none_is : (o : Option ℕ) → is_some o ≡ false → o ≡ None
-none_is None e = refl
-none_is (Some x) e = absurd (true≢false e)
-
--- where neither part of a test is listed, a low that is at most the sum over their bounds is reached
-pub bounds_reach : (p : Problem) (claims : List Claim) (group : List ℕ) (t low : ℕ) (pass fail : Option ℕ) → pass ≡ claim_of claims (pass_part p t group) → fail ≡ claim_of claims (fail_part p t group)
-    → is_some pass ≡ false → is_some fail ≡ false → low ≤ step_sum p (bound p) group t → true ≡ nat_le low (step_sum p (claimed p claims) group t)
-bounds_reach p claims group t low pass fail pass_is fail_is no_pass no_fail le =
-    let a = unlisted p claims (pass_part p t group) (sym pass_is ∙ none_is pass no_pass) in
-    let b = unlisted p claims (fail_part p t group) (sym fail_is ∙ none_is fail no_fail) in
+-- where both parts of a test count at least their bounds, a low that is at most the sum over the bounds is reached
+pub bounds_reach : (p : Problem) (claims : List Claim) (group pass fail : List ℕ) (t low : ℕ) → pass ≡ pass_part p t group → fail ≡ fail_part p t group
+    → bound p pass ≤ claimed p claims pass → bound p fail ≤ claimed p claims fail → low ≤ step_sum p (bound p) group t → true ≡ nat_le low (step_sum p (claimed p claims) group t)
+bounds_reach p claims group pass fail t low pe fe a b le =
+    let first : bound p (pass_part p t group) ≤ claimed p claims (pass_part p t group) = subst (λ (l : List ℕ). bound p l ≤ claimed p claims l) pe a in
+    let second : bound p (fail_part p t group) ≤ claimed p claims (fail_part p t group) = subst (λ (l : List ℕ). bound p l ≤ claimed p claims l) fe b in
     le-true low (step_sum p (claimed p claims) group t) (omega arith)
 
 -- the sum of a test by what its parts count

@@ -7,6 +7,7 @@ pub mod SideLooks
 pub mod TreeWalk
 pub mod SizedGroups
 pub mod Alike
+pub mod BelowBounds
 pub mod PickedStates
 pub mod ClassLines
 pub mod GroupLines

@@ -1,8 +1,9 @@
 //! C07: whether a group line claims no more than its group's bound and the other lines allow. A listed
 //! part counts by the low that its first line claims, whatever its bound; that low may be any number, so
 //! the sums are of 128 bits. A part that isn't listed counts by its bound, which costs far more than a
-//! look-up; so where neither part of a test is listed, an estimate of the sum that takes no bound comes
-//! first, and where it is as much as the line claims, it is enough.
+//! look-up and an estimate of a test's sum together. So the estimate comes first: it is at most the sum over
+//! the bounds of both parts, and where it is as much as the line claims, it is enough, and neither low is
+//! looked up. It may not stand in for a part of which less than its bound is claimed.
 ghost use Rattle.std.specs.Prelude.{◌≡◌, ◌<◌, List, true, cond, nat_le, unwrap_or, vec_len};
 ghost use Rattle.seq_theory.specs.Problem.{is_end, splits as is_split, weight_of as weight_sum};
 ghost use Rattle.seq_theory.specs.Bound.{bound as bound_of, step_sum};
@@ -13,8 +14,10 @@ ghost use Rattle.seq_huff.specs.Orders.{IsOrderFor};
 ghost use Rattle.seq_huff.specs.Estimates.{IsEstimateFor};
 ghost use Rattle.seq_cert.specs.declared.report.GroupLine.{GroupLine as Line};
 ghost use Rattle.seq_check.specs.GroupLooks.{claims_of, most_claimed};
-ghost use Rattle.seq_check.specs.Listed.{AreLows};
+ghost use Rattle.seq_check.specs.Listed.{AreLows, IsListing};
 
+use crate::below::counts_bound;
+use crate::listing::Listing;
 use crate::lows::Lows;
 use seq_cert::GroupLine;
 use seq_huff::{Estimate, Order, Scratch, ordered_bound};
@@ -57,7 +60,7 @@ fn is_reached(
     scratch: &mut Scratch,
     order: &Order,
     inst: &Instance,
-    lows: &Lows,
+    listing: &Listing,
     estimate: &Estimate,
     group: &Group,
     weight: u64,
@@ -70,16 +73,16 @@ fn is_reached(
     requires weight { weight ≡ weight_sum (problem_of inst.now) (members group.now) }
     requires there { test < vec_len inst.now.costs }
     requires splits { is_split (problem_of inst.now) (members group.now) test ≡ true }
-    ensures { (lines : List Line) → AreLows lows.now lines → result ≡ nat_le low (step_sum (problem_of inst.now) (claimed (problem_of inst.now) (claims_of lines)) (members group.now) test) }
+    ensures { (lines : List Line) → IsListing (problem_of inst.now) listing.now lines → result ≡ nat_le low (step_sum (problem_of inst.now) (claimed (problem_of inst.now) (claims_of lines)) (members group.now) test) }
 {
     let parts = parts_of(inst, group, test);
-    let pass_low = listed(lows, &parts.pass);
-    let fail_low = listed(lows, &parts.fail);
-    if pass_low.is_none() && fail_low.is_none() {
+    if counts_bound(&listing.below, &parts.pass) && counts_bound(&listing.below, &parts.fail) {
         if low <= estimate.least_sum(order, inst, group, test) {
             return true;
         }
     }
+    let pass_low = listed(&listing.lows, &parts.pass);
+    let fail_low = listed(&listing.lows, &parts.fail);
     let pass = counted(scratch, order, inst, &parts.pass, pass_low);
     let fail = counted(scratch, order, inst, &parts.fail, fail_low);
     let first = u128::from(inst.costs[test as usize]) * u128::from(weight);
@@ -87,17 +90,17 @@ fn is_reached(
 }
 
 /// Whether the line claims no more than is allowed. It takes the bound of its group first, and only then
-/// goes through the splitting tests, with two look-ups each.
+/// goes through the splitting tests, with an estimate each.
 pub fn is_allowed(
     scratch: &mut Scratch,
     order: &Order,
     inst: &Instance,
-    lows: &Lows,
+    listing: &Listing,
     line: &GroupLine,
 ) -> bool
     requires order { IsOrderFor inst.now order.now }
     requires within { IsGroupOf inst.now line.now.group }
-    ensures { (lines : List Line) → AreLows lows.now lines → result ≡ nat_le line.now.low (most_claimed (problem_of inst.now) (claims_of lines) (members line.now.group)) }
+    ensures { (lines : List Line) → IsListing (problem_of inst.now) listing.now lines → result ≡ nat_le line.now.low (most_claimed (problem_of inst.now) (claims_of lines) (members line.now.group)) }
 {
     let group = &line.group;
     if line.low <= ordered_bound(scratch, order, inst, group) {
@@ -110,7 +113,7 @@ pub fn is_allowed(
     for test in 0..tests {
         if splits(inst, group, test) {
             if !is_reached(
-                scratch, order, inst, lows, &estimate, group, weight, test, line.low,
+                scratch, order, inst, listing, &estimate, group, weight, test, line.low,
             ) {
                 return false;
             }

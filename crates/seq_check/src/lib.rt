@@ -5,19 +5,23 @@
 //! and its cost, and a number that no right strategy undercuts.
 //!
 //! What a line costs: one of the head, of a class, a state or a test is one comparison with the model. An
-//! `ask` takes the weight and both parts of its group, and a `leaf` the class that it names. A group
-//! line takes, for each test that splits its group, two look-ups of a part, and for a part that isn't
-//! listed its bound, unless a cheaper estimate shows that the sum is enough. The weights of the classes
-//! and the costs of the tests are put in order once, so that no bound sorts. The group lines make up the
-//! time of a long certificate: at most 512 look-ups and 512 bounds each.
+//! `ask` takes the weight and both parts of its group, and a `leaf` the class that it names. The weights of
+//! the classes and the costs of the tests are put in order once, so that no bound sorts. The group lines make
+//! up the time of a long certificate. Before they are looked at, the bound of each tells which of them claim
+//! less than their bound. A line then takes the bound of its group, and where it claims more, an estimate for
+//! each test that splits the group. Where that shows that the test's sum is enough, nothing more is asked;
+//! else both parts are looked up, and the bound of a part that isn't listed is taken. So a certificate costs
+//! at most two bounds a line, and four look-ups, an estimate and two bounds a line and test.
 #![tactic(auto)]
 
+mod below;
 mod claim;
 mod gap;
 mod groups;
 mod head;
 mod last;
 mod laws;
+mod listing;
 mod looking;
 mod lows;
 mod missed;

@@ -15,7 +15,7 @@ ghost use Rattle.seq_check.specs.Shown.{Judges, Shows};
 
 use crate::groups::first_in_groups;
 use crate::head::first_in_head;
-use crate::lows::lows_of;
+use crate::listing::listing_of;
 use crate::missed::first_in_missed;
 use crate::model::{first_in_classes, first_in_tests};
 use crate::places::{Places, places_of};
@@ -43,12 +43,12 @@ fn first_from_groups(
     let mut scratch = Scratch::new();
     let lines = report.groups.as_slice();
     let order = Order::of(alloc, inst)?;
-    let lows = lows_of(alloc, lines)?;
+    let listing = listing_of(alloc, &mut scratch, &order, inst, lines)?;
     let bad = first_in_groups(
         &mut scratch,
         &order,
         inst,
-        &lows,
+        &listing,
         report.low,
         lines,
         places.groups,
@@ -56,7 +56,7 @@ fn first_from_groups(
     if bad.is_some() {
         return Ok(bad);
     }
-    Ok(first_in_missed(inst, &lows, report.missed, places.missed))
+    Ok(first_in_missed(inst, &listing.lows, report.missed, places.missed))
 }
 
 /// The first bad line from the tree on, which was walked.
@@ -138,9 +138,9 @@ fn first_bad_line(
 /// The report's verdict, where no line is bad; else the first bad line with the lowest code that it
 /// breaks. Whoever made the report is not trusted.
 ///
-/// The work is at most that of putting the weights and the costs in order once, and of the bounds of all
-/// listed groups and of their parts by splitting tests: for each group line two look-ups a splitting test,
-/// and at most a bound for each part that is not listed.
+/// The work is at most that of putting the weights and the costs in order once, of two bounds for each group
+/// line, and for each splitting test of its group of four look-ups, an estimate, and a bound of each part that
+/// is not listed. Where the estimate is enough, a test takes no low and no bound.
 pub fn check(
     alloc: Global,
     inst: &Instance,

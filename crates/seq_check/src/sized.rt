@@ -10,7 +10,7 @@ use seq_cert::{GroupLine, comes_before};
 use seq_inst::{Group, Instance, count_of, is_leaf};
 
 /// Whether all classes of the group are there.
-fn has_only_classes(inst: &Instance, group: &Group) -> bool
+pub fn has_only_classes(inst: &Instance, group: &Group) -> bool
     ensures { result ≡ list_all (λ c. nat_lt c (problem_of inst.now).classes) (members group.now) }
 {
     let classes = inst.weights.len() as u32;

@@ -214,6 +214,18 @@ fn an_altered_line_is_named(rt: HostRuntime) -> Result<(), Fail> {
             26,
             BadCode::C08,
         ),
+        // The bound of classes 0 and 2 is 7. Claimed to be 0, it counts 0, and all classes then 20 by test 0.
+        (
+            [
+                HEAD,
+                b"cost 27\nlow 27\ngap 0\nlimit 4000\ngroups 2\n".as_slice(),
+                STATES,
+                TREE,
+                b"group 2 5 0\ngroup 3 7 27\nend\n".as_slice(),
+            ],
+            27,
+            BadCode::C07,
+        ),
     ] {
         let bad = first_bad(alloc, parts)?;
         assert!(rt; bad == Some(BadLine { line, code }));

@@ -20,7 +20,7 @@ returns-then-is_some c =
     let p = problem_of c.args.inst.now in
     let lines = c.args.lines.now in
     let i = c.loop-at.at in
-    let found = c.first_in_group-bad.ensures lines c.requires.lows
+    let found = c.first_in_group-bad.ensures lines c.requires.listing
     ∙ ap (λ (l : List GroupLine). first_bad (group_look p (c.args.line + i) c.args.low (claims_of lines) c.loop-at.before (get_or lines i no_line) l)) (behind (i + 1) lines) in
     group_stops p c.args.low (claims_of lines) c.args.line i c.loop-at.before lines no_line c.loop-at-test.true c.first_in_group-bad.result (sym c.if-is_some.ensures) found c.loop-at.invariant
 
@@ -30,6 +30,6 @@ loop-at-preserved c =
     let p = problem_of c.args.inst.now in
     let lines = c.args.lines.now in
     let i = c.loop-at.at in
-    let found = c.first_in_group-bad.ensures lines c.requires.lows
+    let found = c.first_in_group-bad.ensures lines c.requires.listing
     ∙ ap (λ (l : List GroupLine). first_bad (group_look p (c.args.line + i) c.args.low (claims_of lines) c.loop-at.before (get_or lines i no_line) l)) (behind (i + 1) lines) in
     groups_go_on p c.args.low (claims_of lines) c.args.line i c.loop-at.before lines no_line c.loop-at-test.true c.first_in_group-bad.result (sym c.if-is_some.ensures) found c.loop-at.invariant

@@ -26,6 +26,6 @@ returns c =
     let found : c.first_in_groups-bad.result ≡ first_bad (group_looks p (groups_at r) r.low (claims_of r.groups) None r.groups) =
     c.first_in_groups-bad.ensures ∙ ap (λ (ls : List GroupLine). first_bad (group_looks p c.args.places.groups r.low (claims_of ls) None ls)) c.as_slice-lines.ensures
     ∙ ap (λ (k : ℕ). first_bad (group_looks p k r.low (claims_of r.groups) None r.groups)) c.requires.groups in
-    let lows : AreLows c.in_ok-lows.lows r.groups = subst (λ (ls : List GroupLine). AreLows c.in_ok-lows.lows ls) c.as_slice-lines.ensures c.in_ok-lows.ensures in
+    let lows : AreLows c.in_ok-listing.listing.lows r.groups = subst (λ (ls : List GroupLine). AreLows c.in_ok-listing.listing.lows ls) c.as_slice-lines.ensures c.in_ok-listing.ensures.lows in
     c.first_in_missed.ensures r.groups lows ∙ ap (λ (k : ℕ). first_bad (missed_looks p k r.groups r.missed)) c.requires.missed
     ∙ sym (passes (group_looks p (groups_at r) r.low (claims_of r.groups) None r.groups) (missed_looks p (missed_at r) r.groups r.missed) c.first_in_groups-bad.result (sym c.if-is_some.ensures) found)
