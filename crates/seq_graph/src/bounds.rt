@@ -27,8 +27,8 @@ pub struct Bounds {
     pub up: u64,
 }
 
-/// No group costs more.
-pub(crate) const GREATEST_COST: u64 = 2_097_664_000_000_000_000;
+/// No group costs more: the numbers of an instance are too small.
+pub const GREATEST_COST: u64 = 2_097_664_000_000_000_000;
 
 /// What the tests of a group allow, by the one of least sum and those that are evaluated.
 pub(crate) fn bounds_by(inst: &Instance, graph: &Graph, place: usize, least: Least) -> Bounds

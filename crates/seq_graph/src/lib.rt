@@ -39,7 +39,7 @@ mod sums;
 mod tests;
 mod waiting;
 
-pub use bounds::{Bounds, backed_up};
+pub use bounds::{Bounds, GREATEST_COST, backed_up};
 pub use events::{add, back_up, enter, hear};
 pub use finding::place_of;
 pub use graph::{Count, Graph};

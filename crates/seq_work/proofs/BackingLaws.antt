@@ -134,20 +134,20 @@ module _ (inst : Instance) (words : Wording) (seat : Sitting) (l : Local) (r : R
       }
 
   -- a group was given a row at its place
-  pub graph-listed : (m : Local) (g : Group) (place up : ℕ) → IsGraph (problem_of inst) m.graph → UsesRoomOfOne l.graph m.graph → length l.graph.rows.items < words.limit → m.graph.rows.items ≡ l.graph.rows.items ++ record { group = g; low = 0; up = up } ∷ [] → m.places.items ≡ l.places.items ++ place ∷ [] → vec_capacity m.places ≡ vec_capacity l.places
-      → IsKnown place seat.view → group_at place seat.view ≡ members g → up_seen place seat.view ≤ up → Ready inst words seat m
-  graph-listed m g place up known uses few rows places capacity there group above = record {
+  pub graph-listed : (m : Local) (g : Group) (place low up : ℕ) → IsGraph (problem_of inst) m.graph → UsesRoomOfOne l.graph m.graph → length l.graph.rows.items < words.limit → m.graph.rows.items ≡ l.graph.rows.items ++ record { group = g; low = low; up = up } ∷ [] → m.places.items ≡ l.places.items ++ place ∷ [] → vec_capacity m.places ≡ vec_capacity l.places
+      → IsKnown place seat.view → group_at place seat.view ≡ members g → low ≤ low_seen place seat.view → up_seen place seat.view ≤ up → Ready inst words seat m
+  graph-listed m g place low up known uses few rows places capacity there group below above = record {
     of = r.of;
     told = r.told;
     limit = r.limit;
     alone = r.alone;
     graph = known;
-    standing = subst (λ xs. AllZip (StandsAt seat.view) xs m.places.items) (sym rows) (subst (AllZip (StandsAt seat.view) (l.graph.rows.items ++ record { group = g; low = 0; up = up } ∷ [])) (sym places)
-        (zip-last (StandsAt seat.view) l.graph.rows.items l.places.items (record { group = g; low = 0; up = up }) place r.standing
-        (record { known = there; group = group; low = omega arith; up = above })));
+    standing = subst (λ xs. AllZip (StandsAt seat.view) xs m.places.items) (sym rows) (subst (AllZip (StandsAt seat.view) (l.graph.rows.items ++ record { group = g; low = low; up = up } ∷ [])) (sym places)
+        (zip-last (StandsAt seat.view) l.graph.rows.items l.places.items (record { group = g; low = low; up = up }) place r.standing
+        (record { known = there; group = group; low = below; up = above })));
     room =
         let long = ap (λ (xs : List Row). length xs) rows in
-        let one = length-append l.graph.rows.items (record { group = g; low = 0; up = up } ∷ []) in
+        let one = length-append l.graph.rows.items (record { group = g; low = low; up = up } ∷ []) in
         uses (words.limit - length m.graph.rows.items) (subst (λ n. HasRoom n l.graph) (omega arith) r.room);
     places_room = let p = r.places_room in omega arith;
   }

@@ -8,7 +8,7 @@ ghost use Rattle.seq_work.specs.Works.{Ready};
 ghost use Rattle.seq_work.specs.Turns.{HasWorked, first_answer};
 
 use crate::backing::back_up;
-use crate::entering::list;
+use crate::entering::take_in;
 use crate::local::Local;
 use crate::shared::Shared;
 use seq_graph::{Step, next_step, turns_move};
@@ -53,9 +53,7 @@ pub(crate) fn turn<N: Naming + Send + Sync, R: Wait>(
             match entered {
                 Entered::Full { drawn: _ } => return Some(group),
                 Entered::At { place } => {
-                    let last = local.graph.rows.len();
-                    list(&shared.words, &shared.inst, seat, local, &group, place);
-                    back_up(&shared.words, &shared.inst, seat, local, last);
+                    take_in(&shared.words, &shared.inst, seat, local, &group, place);
                 }
             }
             back_up(&shared.words, &shared.inst, seat, local, node);

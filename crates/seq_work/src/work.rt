@@ -12,8 +12,7 @@ ghost use Rattle.seq_work.specs.Works.{Ready};
 ghost use Rattle.seq_work.specs.Ends.{KnowsRoot, Worked};
 ghost use Rattle.seq_work.specs.Fans.{MayBegin};
 
-use crate::backing::back_up;
-use crate::entering::list;
+use crate::entering::take_in;
 use crate::local::Local;
 use crate::shared::Shared;
 use crate::turn::turn;
@@ -45,8 +44,7 @@ fn begin(words: &Words, inst: &Instance, seat: &mut Seat, local: &mut Local, all
     ensures some { 1 ≤ length local.new.graph.rows.items }
     ensures first { members (group_at local.new.graph.rows.items 0) ≡ all_classes (problem_of inst.now) }
 {
-    list(words, inst, seat, local, all, 0);
-    back_up(words, inst, seat, local, 0);
+    take_in(words, inst, seat, local, all, 0);
 }
 
 /// Turns follow until the group of all classes is closed, or a group finds no place.

@@ -74,5 +74,5 @@ returns-clause-ready c =
     let seen : up_seen place seat1.view ≡ c.lower_cap.result = ap (λ (s : Sitting). up_seen place s.view) f.learns ∙ up-heard c.args.seat.now.view place c.lower_cap.result c.requires.there.0 in
     let reached = f.reached in
     let covers = f.covers place in
-    graph-listed inst words seat1 l ready m c.args.group.now place greedy c.add.ensures.known c.add.ensures.room few added c.push_reserved.ensures.items c.push_reserved.ensures.capacity
-    (covers.there c.requires.there.0, ap (λ (b : List ℕ). length b) (covers.bits c.requires.there.1) ∙ c.requires.there.1) (ap classes_of (covers.bits c.requires.there.1) ∙ c.requires.group) (omega arith)
+    graph-listed inst words seat1 l ready m c.args.group.now place 0 greedy c.add.ensures.known c.add.ensures.room few added c.push_reserved.ensures.items c.push_reserved.ensures.capacity
+    (covers.there c.requires.there.0, ap (λ (b : List ℕ). length b) (covers.bits c.requires.there.1) ∙ c.requires.there.1) (ap classes_of (covers.bits c.requires.there.1) ∙ c.requires.group) (omega arith) (omega arith)

@@ -1,5 +1,5 @@
 use Rattle.std.proofs.Common.{Vec, Global, List, length, refl, sym, ap, subst, arith}
-use Rattle.seq_theory.specs.Greedy.{greedy_cost}
+use Rattle.seq_theory.specs.Rows.{no_value}
 use Rattle.seq_inst.specs.declared.outcome.Row.{Row}
 use Rattle.seq_inst.specs.Members.{members}
 use Rattle.seq_inst.specs.Instances.{problem_of}
@@ -25,8 +25,8 @@ returns-in-Full-clause-ready g t c =
     let e = c.enter_at-entered.ensures in
     seat-stepped inst words c.args.seat.now m r c.enter_at-entered.new.seat e.of e.covers e.alone
 
-pub list-requires-clause-ready : goal.list-requires-clause-ready
-list-requires-clause-ready g t c =
+pub take_in-requires-clause-ready : goal.take_in-requires-clause-ready
+take_in-requires-clause-ready g t c =
     let inst = c.args.shared.now.inst in
     let words = g.N.Naming.words in
     let l = c.args.local.now in
@@ -35,9 +35,9 @@ list-requires-clause-ready g t c =
     let e = c.enter_at-entered.ensures in
     subst (λ (w : Wording). Ready inst w c.enter_at-entered.new.seat m) (sym c.args.shared.now.named) (seat-stepped inst words c.args.seat.now m r c.enter_at-entered.new.seat e.of e.covers e.alone)
 
-pub back_up-requires-in-Enter-clause-node : goal.back_up-requires-in-Enter-clause-node
-back_up-requires-in-Enter-clause-node g t c =
-    let more = longer c.next_step.new.graph.rows.items c.list.new.local.graph.rows.items c.back_up.new.local.graph.rows.items _ c.list.ensures.rows c.back_up.ensures.narrows in
+pub back_up-requires-clause-node : goal.back_up-requires-clause-node
+back_up-requires-clause-node g t c =
+    let more = longer c.next_step.new.graph.rows.items c.take_in.new.local.graph.rows.items _ c.take_in.ensures.narrows in
     let same = ap length (ap (λ (v : Vec Row Global). v.items) c.next_step.ensures.rows) in
     let node = c.requires.node in
     omega arith
@@ -48,14 +48,14 @@ returns-in-At-clause-worked g t c =
     let p = problem_of inst in
     let limit = g.N.Naming.words.limit in
     let chosen = c.next_step.new.graph.rows.items in
-    let entered = c.back_up.new.local.graph.rows.items in
-    let new = c.back_up-in-Enter.new.local.graph.rows.items in
-    let row : Row = record { group = c.in-Enter.group; low = 0; up = greedy_cost p (members c.in-Enter.group) } in
+    let entered = c.take_in.new.local.graph.rows.items in
+    let new = c.back_up.new.local.graph.rows.items in
+    let row : Row = record { group = c.in-Enter.group; low = 0; up = no_value } in
     let same = ap (λ (w : Wording). w.limit) c.args.shared.now.named in
-    let room = c.list.ensures.room in
+    let room = c.take_in.ensures.room in
     subst (λ xs. HasMoved p limit xs new) (ap (λ (v : Vec Row Global). v.items) c.next_step.ensures.rows)
-    (c.turns_move.ensures.entering inst limit chosen row entered new (omega arith) c.back_up.ensures.ready.graph.rows_are
-    (subst (λ xs. Narrows xs entered) c.list.ensures.rows c.back_up.ensures.narrows) c.back_up-in-Enter.ensures.ready.graph.rows_are c.back_up-in-Enter.ensures.narrows)
+    (c.turns_move.ensures.entering inst limit chosen row entered new (omega arith) c.take_in.ensures.ready.graph.rows_are
+    c.take_in.ensures.narrows c.back_up.ensures.ready.graph.rows_are c.back_up.ensures.narrows)
 
 pub returns-in_default-clause-worked : goal.returns-in_default-clause-worked
 returns-in_default-clause-worked g t c =
@@ -108,7 +108,6 @@ pub returns-in-At-clause-covers : goal.returns-in-At-clause-covers
 returns-in-At-clause-covers g t c =
     let first = c.args.seat.now.view in
     let entered = c.enter_at-entered.new.seat.view in
-    let listed = c.list.new.seat.view in
-    let backed = c.back_up.new.seat.view in
-    covers-on first backed c.back_up-in-Enter.new.seat.view c.back_up-in-Enter.ensures.covers
-    (covers-on first listed backed c.back_up.ensures.covers (covers-on first entered listed c.list.ensures.covers c.enter_at-entered.ensures.covers))
+    let taken = c.take_in.new.seat.view in
+    covers-on first taken c.back_up.new.seat.view c.back_up.ensures.covers
+    (covers-on first entered taken c.take_in.ensures.covers c.enter_at-entered.ensures.covers)
