@@ -17,9 +17,11 @@
 
 mod bounds;
 mod choice;
+mod choosing;
 mod counts;
 mod events;
 mod finding;
+mod glance;
 mod graph;
 mod greedy;
 mod laws;
@@ -37,8 +39,10 @@ mod tests;
 mod waiting;
 
 pub use bounds::{Bounds, backed_up};
+pub use choosing::{LeastParts, choose_step, least_parts};
 pub use events::{add, back_up, enter, hear};
 pub use finding::place_of;
+pub use glance::seen_bounds;
 pub use graph::{Count, Graph};
 pub use laws::turns_move;
 pub use node::{Growth, Lists, Node, Split, Waiting};
