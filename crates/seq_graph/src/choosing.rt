@@ -343,7 +343,7 @@ fn step_at(
 
 /// What the worker of this number does at a group. The worker of number 0 goes by the test of least sum, as
 /// one thread does; another by a test that qualifies. Of the two parts one that isn't known comes first, and
-/// then one that this graph has listed.
+/// then one that this graph has listed. Where both parts by the test of least sum are closed, so is the group.
 pub fn choose_step(
     inst: &Instance,
     graph: &mut Graph,
@@ -359,13 +359,12 @@ pub fn choose_step(
     ensures step { IsStep (problem_of inst.now) graph.old.rows.items (members (group_at graph.old.rows.items place)) result }
 {
     let least = least_test(inst, graph, place);
-    let step = step_by_test(inst, graph, place, least.test, first);
-    if number == 0 || matches!(step, Step::Close) {
-        return step;
+    // Where both parts by the test of least sum are closed, its sums over lows and ups are the same.
+    if number != 0 && least.sum < least.up {
+        let limits = limits_of(inst, graph, place, least.sum);
+        if let Some(candidate) = chosen(inst, graph, place, limits, number) {
+            return step_at(inst, graph, place, candidate, first);
+        }
     }
-    let limits = limits_of(inst, graph, place, least.sum);
-    match chosen(inst, graph, place, limits, number) {
-        Some(candidate) => step_at(inst, graph, place, candidate, first),
-        None => step,
-    }
+    step_by_test(inst, graph, place, least.test, first)
 }

@@ -1,6 +1,7 @@
-//! A glance at a group on a walk's way up: what its tests allow for its bounds by what is known of them now.
-//! Unlike `backed_up` it evaluates no test, so its low may be less than the rows allow. It is no less than it
-//! has to be where the least sum is certain still, and costs one pass over the lists.
+//! A glance at a group on a worker's way up: what its tests allow for its bounds by what is known of them now.
+//! Unlike `backed_up` it evaluates no test, and so changes nothing: a test that waits counts for the number
+//! that it waits with. The low that it gives may be less than the rows allow, and never more. It costs one
+//! pass over each of the group's lists.
 ghost use Rattle.std.specs.Prelude.{◌<◌, ◌≤◌, length, All};
 ghost use Rattle.seq_theory.specs.Bound.{step_sum};
 ghost use Rattle.seq_theory.specs.Rows.{known_low, least_up};
