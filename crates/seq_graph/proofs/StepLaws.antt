@@ -3,7 +3,7 @@
 use Rattle.std.proofs.Common.{◌≡◌, ◌≢◌, ℕ, zero, suc, ◌<◌, ◌≤◌, max, List, [], ◌∷◌, ◌++◌, length, get_or, refl, sym, ap, ◌∙◌, arith, inl, inr, subst, Some, None, length-append}
 use Rattle.std.specs.Prelude.{Bool, true, false, cond}
 use Rattle.std.proofs.lemmas.Bool.{cases_Bool}
-use Rattle.seq_theory.specs.Problem.{Problem, IsWithin, is_end, splitting, pass_part, fail_part}
+use Rattle.seq_theory.specs.Problem.{Problem, IsIn, IsWithin, is_end, splitting, pass_part, fail_part}
 use Rattle.seq_theory.specs.Laws.{WalksHold}
 use Rattle.seq_theory.specs.Bound.{bound, step_sum}
 use Rattle.seq_theory.specs.Graph.{part, IsWanted}
@@ -29,6 +29,7 @@ use Rattle.seq_graph.specs.declared.graph.Count.{Count}
 use Rattle.seq_graph.specs.Known.{AreRows, AreKnown, count_of, row_at, group_at, Narrows, IsClosedAt}
 use Rattle.seq_graph.specs.Parts.{IsUnknown, IsOpenAt, IsKnowledge}
 use Rattle.seq_graph.specs.Steps.{IsNew, IsOpenBelow, IsStep, ClosesBelow, Enters, least_test, step_by}
+use Rattle.seq_graph.specs.Choosing.{IsWantedBelow, WantsBoth}
 use Rattle.seq_graph.specs.Walks.{HasMoved}
 use Rattle.seq_graph.proofs.KnownLaws.{IsLight, light-group, known_low-small, known_low-le, bound-le-known_low, row-real, row-within, row-bounds}
 use Rattle.seq_graph.proofs.PlaceLaws.{IsPlaced, place-found, place-none, row-at-place}
@@ -71,7 +72,7 @@ module _ (inst : Instance) (v : Numbered) (rows : List Row) (kept : List Node) (
     | inr o ↦ absurd (up (ap (λ (c : Count). c.up) (counted g n x has read) ∙ ap value_or (none-up g (none-row g n x has read none) ∙ ap (λ b. cond b (Some 0) None) o)))
   ]
 
-  placed : (g : List ℕ) (n place : ℕ) (x : Count) → HasNumber v g n → x ≡ get_or counts n x → x.place ≡ Some place → IsPlaced rows g place
+  pub placed : (g : List ℕ) (n place : ℕ) (x : Count) → HasNumber v g n → x ≡ get_or counts n x → x.place ≡ Some place → IsPlaced rows g place
   placed g n place x has read at = place-found rows g place (sym (ap (λ (c : Count). c.place) (counted g n x has read)) ∙ at)
 
   -- the count of a group with a row
@@ -115,90 +116,68 @@ module _ (inst : Instance) (v : Numbered) (rows : List Row) (kept : List Node) (
       let small = known_low-small inst rows known.rows_are g light in
       up-given p v rows kept counts known g n x has read (λ none. let bad : ⊥ = omega arith in bad) ∙ ap (λ m. Some m) (sym closed ∙ low)
 
-module _ (law : WalksHold) (inst : Instance) (rows : List Row) (known : AreRows (problem_of inst) rows) where
-  -- ---- what the walk does ----
+-- a test that splits the group has smaller parts
+pub wants-both : (p : Problem) (group : List ℕ) (t : ℕ) → IsIn t (splitting p group) → ((passed : Bool) → IsWanted p (part p t passed group)) → WantsBoth p group t
+wants-both p group t i wanted = record {
+  passing = record { wanted = wanted true; smaller = pass_part_smaller p t group (splitting-splits p group t i) };
+  failing = record { wanted = wanted false; smaller = fail_part_smaller p t group (splitting-splits p group t i) };
+}
 
-  new-part : (place t : ℕ) (passed : Bool) (g : Group) → place < length rows
+module _ (law : WalksHold) (inst : Instance) (rows : List Row) (known : AreRows (problem_of inst) rows) where
+  -- ---- both parts by the test of least sum are wanted ----
+
+  wanted-part : (place t : ℕ) (passed : Bool) → place < length rows
       → IsFirst (step_sum (problem_of inst) (known_low (problem_of inst) (rows_from rows)) (members (group_at rows place))) (splitting (problem_of inst) (members (group_at rows place))) t
-      → members g ≡ part (problem_of inst) t passed (members (group_at rows place)) → IsUnknown (problem_of inst) rows (members g) → IsNew (problem_of inst) rows (members g)
-  new-part place t passed g lt first is unknown =
+      → IsWanted (problem_of inst) (part (problem_of inst) t passed (members (group_at rows place)))
+  wanted-part place t passed lt first =
       let p = problem_of inst in
-      let real = row-real p rows known place lt in
-      let wanted = law p (known_low p (rows_from rows)) (members (group_at rows place)) t passed inst.valid.told real
+      law p (known_low p (rows_from rows)) (members (group_at rows place)) t passed inst.valid.told (row-real p rows known place lt)
       (splitting-there p (members (group_at rows place)) t first.among) (splitting-splits p (members (group_at rows place)) t first.among)
       (bound-le-known_low p rows known)
       (λ x n within least_is.
       let a = known_low-le p rows known inst.stands.weighed inst.valid.told x within in
       let one = IsLeast-one p x (least p x) n (IsLeast-least p x inst.valid.told within) least_is in
-      omega arith) first.least in
-      record {
-        real = record { wanted = subst (IsWanted p) (sym is) wanted; goals = unknown.goals };
-        absent = row-none (rows_from rows) (members g) unknown.absent;
-      }
+      omega arith) first.least
 
-  pub new-pass : (place t : ℕ) (g : Group) → place < length rows
+  pub first-wants : (place t : ℕ) → place < length rows
       → IsFirst (step_sum (problem_of inst) (known_low (problem_of inst) (rows_from rows)) (members (group_at rows place))) (splitting (problem_of inst) (members (group_at rows place))) t
-      → members g ≡ pass_part (problem_of inst) t (members (group_at rows place)) → IsUnknown (problem_of inst) rows (members g) → IsNew (problem_of inst) rows (members g)
-  new-pass place t g = new-part place t true g
+      → WantsBoth (problem_of inst) (members (group_at rows place)) t
+  first-wants place t lt first = wants-both (problem_of inst) (members (group_at rows place)) t first.among (λ passed. wanted-part place t passed lt first)
 
-  pub new-fail : (place t : ℕ) (g : Group) → place < length rows
-      → IsFirst (step_sum (problem_of inst) (known_low (problem_of inst) (rows_from rows)) (members (group_at rows place))) (splitting (problem_of inst) (members (group_at rows place))) t
-      → members g ≡ fail_part (problem_of inst) t (members (group_at rows place)) → IsUnknown (problem_of inst) rows (members g) → IsNew (problem_of inst) rows (members g)
-  new-fail place t g = new-part place t false g
+-- ---- what the walk does ----
 
-  pub below-pass : (f : ℕ → ℕ) (place t next : ℕ) (g : Group) → IsFirst f (splitting (problem_of inst) (members (group_at rows place))) t → members g ≡ pass_part (problem_of inst) t (members (group_at rows place)) → IsOpenAt rows (members g) next → IsOpenBelow rows (members (group_at rows place)) next
-  below-pass f place t next g first is at = record {
+module _ (p : Problem) (rows : List Row) (group : List ℕ) where
+  new-part : (g : Group) → IsWantedBelow p group (members g) → IsUnknown p rows (members g) → IsNew p rows (members g)
+  new-part g below unknown = record {
+    real = record { wanted = below.wanted; goals = unknown.goals };
+    absent = row-none (rows_from rows) (members g) unknown.absent;
+  }
+
+  below-part : (g : Group) (next : ℕ) → IsWantedBelow p group (members g) → IsOpenAt rows (members g) next → IsOpenBelow rows group next
+  below-part g next below at = record {
     there = at.there;
-    smaller = (let s = pass_part_smaller (problem_of inst) t (members (group_at rows place)) (splitting-splits (problem_of inst) (members (group_at rows place)) t first.among) in let l = ap length (at.same ∙ is) in omega arith);
+    smaller = (let s = below.smaller in let l = ap length at.same in omega arith);
     apart = at.apart;
   }
 
-  pub below-fail : (f : ℕ → ℕ) (place t next : ℕ) (g : Group) → IsFirst f (splitting (problem_of inst) (members (group_at rows place))) t → members g ≡ fail_part (problem_of inst) t (members (group_at rows place)) → IsOpenAt rows (members g) next → IsOpenBelow rows (members (group_at rows place)) next
-  below-fail f place t next g first is at = record {
-    there = at.there;
-    smaller = (let s = fail_part_smaller (problem_of inst) t (members (group_at rows place)) (splitting-splits (problem_of inst) (members (group_at rows place)) t first.among) in let l = ap length (at.same ∙ is) in omega arith);
-    apart = at.apart;
+  -- whichever part comes first
+  pub step-holds : (one : Group) (k : Knowledge) (other : Group) (m : Knowledge) → IsWantedBelow p group (members one) → IsWantedBelow p group (members other)
+      → IsKnowledge p rows (members one) k → IsKnowledge p rows (members other) m → (k ≡ Closed → m ≡ Closed → ClosesBelow p rows group) → IsStep p rows group (step_by one k other m)
+  step-holds one Unknown other m b1 b2 h1 h2 closes = new-part one b1 h1
+  step-holds one (Open q) other Unknown b1 b2 h1 h2 closes = new-part other b2 h2
+  step-holds one (Open q) other (Open r) b1 b2 h1 h2 closes = below-part one q b1 h1
+  step-holds one (Open q) other Closed b1 b2 h1 h2 closes = below-part one q b1 h1
+  step-holds one Closed other Unknown b1 b2 h1 h2 closes = new-part other b2 h2
+  step-holds one Closed other (Open r) b1 b2 h1 h2 closes = below-part other r b2 h2
+  step-holds one Closed other Closed b1 b2 h1 h2 closes = closes refl refl
+
+  -- where both parts by the test of least sum are closed, so is the group
+  pub closes : (t : ℕ) (pass fail : List ℕ) (k m : Knowledge) → t ≡ least_test p rows group → pass ≡ pass_part p t group → fail ≡ fail_part p t group → IsKnowledge p rows pass k → IsKnowledge p rows fail m
+      → k ≡ Closed → m ≡ Closed → ClosesBelow p rows group
+  closes t pass fail k m is ep ef hp hf ck cm = record {
+    passing = subst (λ x. IsKnowledge p rows x Closed) (ep ∙ ap (λ n. pass_part p n group) is) (subst (IsKnowledge p rows pass) ck hp);
+    failing = subst (λ x. IsKnowledge p rows x Closed) (ef ∙ ap (λ n. fail_part p n group) is) (subst (IsKnowledge p rows fail) cm hf);
   }
-
-  closes : (place t : ℕ) (pass fail : Group) → t ≡ least_test (problem_of inst) rows (members (group_at rows place))
-      → members pass ≡ pass_part (problem_of inst) t (members (group_at rows place)) → members fail ≡ fail_part (problem_of inst) t (members (group_at rows place))
-      → IsKnowledge (problem_of inst) rows (members pass) Closed → IsKnowledge (problem_of inst) rows (members fail) Closed
-      → ClosesBelow (problem_of inst) rows (members (group_at rows place))
-  closes place t pass fail is ep ef cp cf =
-      let p = problem_of inst in
-      let g = members (group_at rows place) in
-      record {
-        passing = subst (λ n. IsKnowledge p rows (pass_part p n g) Closed) is (subst (λ x. IsKnowledge p rows x Closed) ep cp);
-        failing = subst (λ n. IsKnowledge p rows (fail_part p n g) Closed) is (subst (λ x. IsKnowledge p rows x Closed) ef cf);
-      }
-
-  -- in the words of the code
-  pub step-holds : (place t : ℕ) (pass : Group) (kp : Knowledge) (fail : Group) (kf : Knowledge) → place < length rows → t ≡ least_test (problem_of inst) rows (members (group_at rows place))
-      → IsFirst (step_sum (problem_of inst) (known_low (problem_of inst) (rows_from rows)) (members (group_at rows place))) (splitting (problem_of inst) (members (group_at rows place))) t
-      → members pass ≡ pass_part (problem_of inst) t (members (group_at rows place)) → members fail ≡ fail_part (problem_of inst) t (members (group_at rows place))
-      → IsKnowledge (problem_of inst) rows (members pass) kp → IsKnowledge (problem_of inst) rows (members fail) kf
-      → IsStep (problem_of inst) rows (members (group_at rows place)) (step_by pass kp fail kf)
-  step-holds place t pass Unknown fail kf lt is first ep ef hp hf = new-pass place t pass lt first ep hp
-  step-holds place t pass (Open q) fail Unknown lt is first ep ef hp hf = new-fail place t fail lt first ef hf
-  step-holds place t pass (Open q) fail (Open r) lt is first ep ef hp hf = below-pass _ place t q pass first ep hp
-  step-holds place t pass (Open q) fail Closed lt is first ep ef hp hf = below-pass _ place t q pass first ep hp
-  step-holds place t pass Closed fail Unknown lt is first ep ef hp hf = new-fail place t fail lt first ef hf
-  step-holds place t pass Closed fail (Open r) lt is first ep ef hp hf = below-fail _ place t r fail first ef hf
-  step-holds place t pass Closed fail Closed lt is first ep ef hp hf = closes place t pass fail is ep ef hp hf
-
-  -- and with the failing part first
-  pub fail-step-holds : (place t : ℕ) (pass : Group) (kp : Knowledge) (fail : Group) (kf : Knowledge) → place < length rows → t ≡ least_test (problem_of inst) rows (members (group_at rows place))
-      → IsFirst (step_sum (problem_of inst) (known_low (problem_of inst) (rows_from rows)) (members (group_at rows place))) (splitting (problem_of inst) (members (group_at rows place))) t
-      → members pass ≡ pass_part (problem_of inst) t (members (group_at rows place)) → members fail ≡ fail_part (problem_of inst) t (members (group_at rows place))
-      → IsKnowledge (problem_of inst) rows (members pass) kp → IsKnowledge (problem_of inst) rows (members fail) kf
-      → IsStep (problem_of inst) rows (members (group_at rows place)) (step_by fail kf pass kp)
-  fail-step-holds place t pass kp fail Unknown lt is first ep ef hp hf = new-fail place t fail lt first ef hf
-  fail-step-holds place t pass Unknown fail (Open q) lt is first ep ef hp hf = new-pass place t pass lt first ep hp
-  fail-step-holds place t pass (Open r) fail (Open q) lt is first ep ef hp hf = below-fail _ place t q fail first ef hf
-  fail-step-holds place t pass Closed fail (Open q) lt is first ep ef hp hf = below-fail _ place t q fail first ef hf
-  fail-step-holds place t pass Unknown fail Closed lt is first ep ef hp hf = new-pass place t pass lt first ep hp
-  fail-step-holds place t pass (Open r) fail Closed lt is first ep ef hp hf = below-pass _ place t r pass first ep hp
-  fail-step-holds place t pass Closed fail Closed lt is first ep ef hp hf = closes place t pass fail is ep ef hp hf
 
 -- ---- the part that comes first ----
 

@@ -11,6 +11,7 @@ pub mod Settling
 pub mod Choice
 pub mod Parts
 pub mod Steps
+pub mod Choosing
 pub mod Walks
 pub mod Behind
 pub mod Laws

@@ -45,7 +45,7 @@ fn choose(earlier: Option<Chosen>, split: Split, sum: u64) -> Chosen
 }
 
 /// The sum of a test over the group of the place, and what its parts count.
-fn low_sum(inst: &Instance, graph: &Graph, place: usize, split: Split) -> u64
+pub(crate) fn low_sum(inst: &Instance, graph: &Graph, place: usize, split: Split) -> u64
     requires known { IsGraphOf inst.now graph.now }
     requires place { place < length graph.now.rows.items }
     requires parts { HasParts (problem_of inst.now) graph.now.numbers (members (group_at graph.now.rows.items place)) split }
@@ -72,7 +72,7 @@ fn least_evaluated(inst: &Instance, graph: &Graph, place: usize) -> Option<Chose
 }
 
 /// The sum of a test and the ups of its parts, if both have one.
-fn up_sum(inst: &Instance, graph: &Graph, place: usize, split: Split) -> Option<u64>
+pub(crate) fn up_sum(inst: &Instance, graph: &Graph, place: usize, split: Split) -> Option<u64>
     requires known { IsGraphOf inst.now graph.now }
     requires place { place < length graph.now.rows.items }
     requires parts { HasParts (problem_of inst.now) graph.now.numbers (members (group_at graph.now.rows.items place)) split }
@@ -182,7 +182,7 @@ pub(crate) fn least_test(inst: &Instance, graph: &mut Graph, place: usize) -> Le
 }
 
 /// The lesser of a number and a value, if there is one.
-fn lesser_of(number: u64, value: Option<u64>) -> u64
+pub(crate) fn lesser_of(number: u64, value: Option<u64>) -> u64
     ensures { result ≡ lesser_value number value }
 {
     match value {

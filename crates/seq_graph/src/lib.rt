@@ -11,17 +11,22 @@
 //!
 //! An engine enters groups (`enter`), goes down by tests of least sum (`next_step`), and raises and caps the
 //! groups that it came through from what is known of their parts (`back_up`: AO*'s revision from below
-//! upwards). Before a group is entered there is room for it: made for one more (`grow`), or for all at once
-//! (`Graph::with_room`), and then nothing takes memory. At the end `settle` gives each row the low and the value
-//! that the entered groups give it together. Whatever is kept saves work, and changes no result. Here too stands
-//! the measure by which a walk ends.
+//! upwards). Where several work, each chooses among the tests that are near the least sum (`choose_step`), and
+//! glances at the groups on its way up (`seen_bounds`). Before a group is entered there is room for it: made
+//! for one more (`grow`), or for all at once (`Graph::with_room`), and then nothing takes memory. At the end
+//! `settle` gives each row the low and the value that the entered groups give it together. Whatever is kept
+//! saves work, and changes no result. Here too stands the measure by which a walk ends.
 #![tactic(auto)]
 
 mod bounds;
 mod choice;
+mod choosing;
+#[cfg(test)]
+mod choosing_tests;
 mod counts;
 mod events;
 mod finding;
+mod glance;
 mod graph;
 mod greedy;
 mod laws;
@@ -40,8 +45,10 @@ mod tests;
 mod waiting;
 
 pub use bounds::{Bounds, GREATEST_COST, backed_up};
+pub use choosing::{LeastParts, choose_step, least_parts};
 pub use events::{add, back_up, enter, hear};
 pub use finding::place_of;
+pub use glance::seen_bounds;
 pub use graph::{Count, Graph};
 pub use laws::turns_move;
 pub use learning::{learn, list};

@@ -8,7 +8,7 @@ ghost use Rattle.seq_inst.specs.Instances.{problem_of};
 ghost use Rattle.seq_graph.specs.Numbered.{HasNumber};
 ghost use Rattle.seq_graph.specs.Known.{group_at, IsGraphOf};
 ghost use Rattle.seq_graph.specs.Rooms.{KeepsRoom};
-ghost use Rattle.seq_graph.specs.Steps.{IsStep, EntersFirst, step_by};
+ghost use Rattle.seq_graph.specs.Steps.{IsStep, EntersFirst, step_by, least_test as least_test_of};
 ghost use Rattle.seq_graph.specs.Parts.{IsKnowledge};
 
 use crate::choice::least_test;
@@ -29,7 +29,7 @@ pub enum Step {
 
 /// What is known of a part.
 #[derive(Clone, Copy)]
-enum Knowledge {
+pub(crate) enum Knowledge {
     /// It has two goals or more, and no row.
     Unknown,
     /// Its row has this place, and its least cost is not known yet.
@@ -39,7 +39,7 @@ enum Knowledge {
 }
 
 /// What is known of the part of a number. A part that has no row and an up has one goal.
-fn knowledge_of(inst: &Instance, graph: &Graph, number: u32) -> Knowledge
+pub(crate) fn knowledge_of(inst: &Instance, graph: &Graph, number: u32) -> Knowledge
     requires known { IsGraphOf inst.now graph.now }
     requires there { number < length graph.now.numbers.groups }
     ensures { (part : List ℕ) → HasNumber graph.now.numbers part number → IsKnowledge (problem_of inst.now) graph.now.rows.items part result }
@@ -84,7 +84,12 @@ fn knowledge_of_part(inst: &Instance, graph: &Graph, part: &Group) -> Knowledge
 }
 
 /// What the walk does at a group, by what is known of both parts. The one comes first.
-fn step_of(one: Group, one_known: Knowledge, other: Group, other_known: Knowledge) -> Step
+pub(crate) fn step_of(
+    one: Group,
+    one_known: Knowledge,
+    other: Group,
+    other_known: Knowledge,
+) -> Step
     ensures { result ≡ step_by one one_known other other_known }
 {
     match one_known {
@@ -103,6 +108,30 @@ fn step_of(one: Group, one_known: Knowledge, other: Group, other_known: Knowledg
 
 /// What the walk does at a group, by its test of least sum. Of its two parts that of the first answer comes
 /// first.
+pub(crate) fn step_by_test(
+    inst: &Instance,
+    graph: &Graph,
+    place: usize,
+    test: u32,
+    first: Answer,
+) -> Step
+    requires known { IsGraphOf inst.now graph.now }
+    requires place { place < length graph.now.rows.items }
+    requires test { test ≡ least_test_of (problem_of inst.now) graph.now.rows.items (members (group_at graph.now.rows.items place)) }
+    ensures step { IsStep (problem_of inst.now) graph.now.rows.items (members (group_at graph.now.rows.items place)) result }
+    ensures first { EntersFirst (problem_of inst.now) graph.now.rows.items (members (group_at graph.now.rows.items place)) first result }
+{
+    walks_hold();
+    let parts = parts_of(inst, &graph.rows[place].group, test);
+    let pass_known = knowledge_of_part(inst, graph, &parts.pass);
+    let fail_known = knowledge_of_part(inst, graph, &parts.fail);
+    match first {
+        Answer::Pass => step_of(parts.pass, pass_known, parts.fail, fail_known),
+        Answer::Fail => step_of(parts.fail, fail_known, parts.pass, pass_known),
+    }
+}
+
+/// What the walk of one thread does at a group.
 pub fn next_step(inst: &Instance, graph: &mut Graph, place: usize, first: Answer) -> Step
     requires known { IsGraphOf inst.now graph.old }
     requires place { place < length graph.old.rows.items }
@@ -112,13 +141,6 @@ pub fn next_step(inst: &Instance, graph: &mut Graph, place: usize, first: Answer
     ensures step { IsStep (problem_of inst.now) graph.old.rows.items (members (group_at graph.old.rows.items place)) result }
     ensures first { EntersFirst (problem_of inst.now) graph.old.rows.items (members (group_at graph.old.rows.items place)) first result }
 {
-    walks_hold();
     let test = least_test(inst, graph, place).test;
-    let parts = parts_of(inst, &graph.rows[place].group, test);
-    let pass_known = knowledge_of_part(inst, graph, &parts.pass);
-    let fail_known = knowledge_of_part(inst, graph, &parts.fail);
-    match first {
-        Answer::Pass => step_of(parts.pass, pass_known, parts.fail, fail_known),
-        Answer::Fail => step_of(parts.fail, fail_known, parts.pass, pass_known),
-    }
+    step_by_test(inst, graph, place, test, first)
 }

@@ -13,7 +13,7 @@ use crate::rooms::reserve_numbers;
 use seq_inst::Instance;
 
 /// The place of the test that waits with the least number, if any waits.
-fn least_waiting(waiting: &[Waiting]) -> Option<usize>
+pub(crate) fn least_waiting(waiting: &[Waiting]) -> Option<usize>
     ensures least { IfSome result (IsLeastWaiting waiting.now) }
     ensures none { IfNone result (waiting.now ≡ []) }
 {
