@@ -1,5 +1,5 @@
-//! The program on worked texts, through the shelf and the sink in memory: printed bytes, each refusal and
-//! each fault, and the statuses that go with them. Expected values come from outside the program.
+//! The program on worked texts, through the shelf and the sink in memory: printed bytes, each refusal, and the
+//! statuses that go with them. Expected values come from outside the program.
 use super::*;
 use crate::limited::*;
 use crate::texts::*;
