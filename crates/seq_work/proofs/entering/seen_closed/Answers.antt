@@ -1,4 +1,4 @@
-use Rattle.std.proofs.Common.{◌≡◌, ◌∙◌, ℕ, List, sym, ap, subst, arith}
+use Rattle.std.proofs.Common.{◌∙◌, ℕ, List, subst, arith}
 use Rattle.seq_inst.specs.Members.{members}
 use Rattle.seq_words.specs.Knowledge.{IsLow, IsUp}
 use Rattle.seq_work.proofs.BackingLaws.{low-true, up-true}

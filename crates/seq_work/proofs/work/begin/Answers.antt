@@ -1,4 +1,4 @@
-use Rattle.std.proofs.Common.{◌≡◌, ◌∙◌, ◌++◌, ◌∷◌, [], List, length, refl, sym, ap, subst, arith}
+use Rattle.std.proofs.Common.{◌≡◌, ◌∙◌, ◌++◌, ◌∷◌, [], List, refl, sym, ap, subst, arith}
 use Rattle.std.specs.Prelude.{false}
 use Rattle.seq_theory.specs.Problem.{is_end}
 use Rattle.seq_theory.specs.Graph.{is_entered, IsWanted, root}
