@@ -11,11 +11,12 @@
 //!
 //! An engine enters groups (`enter`), goes down by tests of least sum (`next_step`), and raises and caps the
 //! groups that it came through from what is known of their parts (`back_up`: AO*'s revision from below
-//! upwards). Where several work, each chooses among the tests that are near the least sum (`choose_step`), and
-//! glances at the groups on its way up (`seen_bounds`). Before a group is entered there is room for it: made
-//! for one more (`grow`), or for all at once (`Graph::with_room`), and then nothing takes memory. At the end
-//! `settle` gives each row the low and the value that the entered groups give it together. Whatever is kept
-//! saves work, and changes no result. Here too stands the measure by which a walk ends.
+//! upwards). Several workers can part ways by choosing among the tests that are near the least sum
+//! (`choose_step`), and glance at the groups on their way up (`seen_bounds`); those of today don't yet. Before a
+//! group is entered there is room for it: made for one more (`grow`), or for all at once (`Graph::with_room`), and
+//! then nothing takes memory. At the end `settle` gives each row the low and the value that the entered groups
+//! give it together. Whatever is kept saves work, and changes no result. Here too stands the measure by which a
+//! walk ends.
 #![tactic(auto)]
 
 mod bounds;
