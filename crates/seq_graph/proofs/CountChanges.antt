@@ -229,6 +229,11 @@ some-there [] i lt = absurd (let bad : ⊥ = omega arith in bad)
 some-there (x ∷ xs) zero lt = (x, refl)
 some-there (x ∷ xs) (suc i) lt = some-there xs i (omega arith)
 
+with-bounds : (low up b place n : ℕ) (c other : Count) → c.low ≡ b → place ≡ n → other ≡ record { low = max low b; up = up; place = Some n } → record { low = max c.low low; up = up; place = Some place } ≡ other
+with-bounds low up b place n c other is at e =
+    let either : max c.low low ≡ max low b = omega arith in
+    ap (λ m. record { low = m; up = up; place = Some place }) either ∙ ap (λ m. record { low = max low b; up = up; place = Some m }) at ∙ sym e
+
 module _ (inst : Instance) (old new : Numbered) (rows : List Row) (kept : List Node) (counts : List Count) (known : AreKnown (problem_of inst) old rows kept counts) (numbers : AreNumbers (problem_of inst) new) (keeps : KeepsNumbers old new) where
   -- a group with a later number has no row
   later-none : (h : List ℕ) (n : ℕ) → length old.groups ≤ n → HasNumber new h n → row_for (rows_from rows) h ≡ None
@@ -273,9 +278,7 @@ module _ (inst : Instance) (old new : Numbered) (rows : List Row) (kept : List N
       let old_is : f (members g) ≡ new_count p (members g) = count-none p rows (members g) none in
       let new_is : now (members g) ≡ record { low = max low (bound p (members g)); up = up; place = Some (length rows) } = count-row p (rows ++ row ∷ []) (members g) (row_from row) (Some (length rows)) real.goals (more-row rows row absent) (more-place rows row absent) in
       let others = λ (h : List ℕ) (ne : h ≢ members g). count-same p (rows ++ row ∷ []) rows h (more-others rows row h ne) (more-other-places rows row h ne) in
-      let either : max (bound p (members g)) low ≡ max low (bound p (members g)) = omega arith in
-      let placed : record { low = max (count_at more k.number).low low; up = up; place = Some place } ≡ now (members g) =
-      ap (λ (c : Count). record { low = max c.low low; up = up; place = Some place }) (here ∙ old_is) ∙ ap (λ n. record { low = max (bound p (members g)) low; up = up; place = Some n }) place_is ∙ ap (λ n. record { low = n; up = up; place = Some (length rows) }) either ∙ sym new_is in
+      let placed = with-bounds low up (bound p (members g)) place (length rows) (count_at more k.number) (now (members g)) (ap (λ (c : Count). c.low) (here ∙ old_is)) place_is new_is in
       let learnt = learnt-rows inst rows g low up real absent right small known.rows_are in
       record {
         rows_are = learnt;

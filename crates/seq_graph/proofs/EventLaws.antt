@@ -116,7 +116,7 @@ module _ (p : Problem) where
     ups = s.ups;
   }
 
-length-from : (rows : List Row) → length (rows_from rows) ≡ length rows
+pub length-from : (rows : List Row) → length (rows_from rows) ≡ length rows
 length-from [] = refl
 length-from (r ∷ rest) = ap suc (length-from rest)
 
@@ -128,7 +128,7 @@ pub record IsRefreshed (p : Problem) (old new : List Row) (k low up : ℕ) : Typ
   pub narrows : Narrows old new
   pub closes : up ≤ low → IsClosedAt new k
 
-groups-set : (rows : List Row) (k : ℕ) (x : Row) → x.group ≡ group_at rows k → groups_in (set rows k x) ≡ groups_in rows
+pub groups-set : (rows : List Row) (k : ℕ) (x : Row) → x.group ≡ group_at rows k → groups_in (set rows k x) ≡ groups_in rows
 groups-set [] k x e = refl
 groups-set (r ∷ rest) zero x e = ap (λ (g : Group). members g ∷ groups_in rest) e
 groups-set (r ∷ rest) (suc k) x e = ap (λ (l : List (List ℕ)). members r.group ∷ l) (groups-set rest k x e)
@@ -305,3 +305,22 @@ capped-last (x ∷ rest) r to = ap (λ l. x ∷ l) (capped-last rest r to)
 pub group-last : (rows : List Row) (r : Row) → group_at (rows ++ r ∷ []) (length rows) ≡ r.group
 group-last [] r = refl
 group-last (x ∷ rest) r = group-last rest r
+
+-- where it is no more already, nothing changes
+pub set-itself : (rows : List Row) (k : ℕ) → set rows k (row_at rows k) ≡ rows
+set-itself [] k = refl
+set-itself (r ∷ rest) zero = refl
+set-itself (r ∷ rest) (suc k) = ap (λ l. r ∷ l) (set-itself rest k)
+
+pub already-capped : (rows : List Row) (k to : ℕ) → (row_at rows k).up ≤ to → rows ≡ capped_at rows k to
+already-capped rows k to le =
+    let r = row_at rows k in
+    let same : r.up ≡ min r.up to = omega arith in
+    sym (set-itself rows k) ∙ ap (λ n. set rows k (record { group = r.group; low = r.low; up = n })) same
+
+-- the rows allow it
+pub cap-allowed : (p : Problem) (rows : List Row) (group : List ℕ) (to : ℕ) → to ≡ greedy_cost p group → Allow p rows group 0 to
+cap-allowed p rows group to is = record {
+  low_allowed = omega arith;
+  up_allowed = (let first = least_of-first (greedy_cost p group) (filter_map (step_value p (known_up p (rows_from rows)) group) (splitting p group)) in omega arith);
+}

@@ -14,3 +14,4 @@ pub mod Steps
 pub mod Walks
 pub mod Behind
 pub mod Laws
+pub mod Together

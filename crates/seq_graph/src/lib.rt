@@ -33,6 +33,7 @@ mod numbers;
 mod plain;
 mod rooms;
 mod settling;
+mod settling_together;
 mod steps;
 mod sums;
 #[cfg(test)]
@@ -49,4 +50,5 @@ pub use node::{Growth, Lists, Node, Split, Waiting};
 pub use numbers::Numbers;
 pub use rooms::grow;
 pub use settling::settle;
+pub use settling_together::settle_together;
 pub use steps::{Step, next_step};

@@ -7,7 +7,6 @@ pub less-room : (few many : ℕ) (g : Graph) → few ≤ many → HasRoom many g
 less-room few many g le r = record {
   rows = let x = r.rows in omega arith;
   nodes = let x = r.nodes in omega arith;
-  lists = let x = r.lists in omega arith;
   numbers = let x = r.numbers in omega arith;
   counts = r.counts;
 }

@@ -1,121 +1,45 @@
-use Rattle.std.proofs.Common.{◌≡◌, ◌∙◌, ◌+◌, ◌<◌, ◌≤◌, ◌∷◌, ◌++◌, [], length, length-append, set, sym, ap, subst, arith, Some, vec_capacity}
-use Rattle.std.proofs.lemmas.List.{length-map}
-use Rattle.std.proofs.lemmas.Option.{slice_get_within}
+use Rattle.std.proofs.Common.{◌≡◌, ◌∙◌, ◌+◌, ◌<◌, ◌≤◌, ◌∷◌, ◌++◌, [], min, length, length-append, refl, sym, ap, subst, arith}
+use Rattle.seq_theory.specs.Greedy.{greedy_cost}
 use Rattle.seq_theory.proofs.RowLaws.{wanted-within}
+use Rattle.seq_huff.specs.Bounds.{greatest_cost}
 use Rattle.seq_inst.specs.Instances.{problem_of}
 use Rattle.seq_inst.specs.Members.{members}
 use Rattle.seq_inst.specs.declared.outcome.Row.{Row}
-use Rattle.seq_graph.specs.declared.graph.Count.{Count}
-use Rattle.seq_graph.specs.declared.node.Node.{Node}
-use Rattle.seq_graph.specs.Known.{AreKnown, AreSound, count_of}
-use Rattle.seq_graph.specs.Counts.{count_at}
-use Rattle.seq_graph.proofs.NumberLaws.{keeps-long}
-use Rattle.seq_graph.proofs.CountLaws.{counts-long}
-use Rattle.seq_graph.proofs.CountChanges.{counts-grown, added-known}
-use Rattle.seq_graph.proofs.EventLaws.{entered-sound}
-use Rattle.seq_graph.proofs.RoomLaws.{push-ok, uses-one}
+use Rattle.seq_graph.specs.Known.{AreSound, group_at, capped_at}
+use Rattle.seq_graph.proofs.EventLaws.{greedy-right, capped-last, group-last, entered-sound}
 use Rattle.seq_graph.proofs.events.add.Goals as goal
 
-pub of-kept-requires-clause-within : goal.of-kept-requires-clause-within
-of-kept-requires-clause-within c = wanted-within (problem_of c.args.inst.now) (members c.args.group.now) c.requires.real.wanted
-
-pub of-kept-requires-clause-held : goal.of-kept-requires-clause-held
-of-kept-requires-clause-held c = let h = c.requires.room.numbers in omega arith
-
-pub count_new-requires-clause-fewer : goal.count_new-requires-clause-fewer
-count_new-requires-clause-fewer c =
-    let s = c.args.graph.now in
-    let long = counts-long (problem_of c.args.inst.now) s.numbers s.rows.items s.nodes.items s.counts.items c.requires.known in
-    let more = keeps-long s.numbers.groups c.of-kept.new.numbers.groups c.of-kept.ensures.keeps in
-    omega arith
-
-pub count_new-requires-clause-room : goal.count_new-requires-clause-room
-count_new-requires-clause-room c =
-    let same = c.of-kept.ensures.capacity in
-    let room = c.requires.room.counts in
-    omega arith
-
-pub count_row-requires : goal.count_row-requires
-count_row-requires c =
-    let s = c.args.graph.now in
-    let p = problem_of c.args.inst.now in
-    let v = c.of-kept.new.numbers in
-    let e = c.of-kept.ensures in
-    let grown = counts-grown c.args.inst.now s.numbers v s.rows.items s.nodes.items s.counts.items c.requires.known e.numbers e.keeps c.count_new.new.counts.items c.count_new.ensures.counts in
-    let long = ap length grown ∙ length-map v.groups (count_of p s.rows.items) in
-    let within = slice_get_within v.groups c.of-kept.result.number _ e.kept.number in
-    omega arith
-
-pub returns-clause-known : goal.returns-clause-known
-returns-clause-known c =
-    let s = c.args.graph.now in
+pub learn-requires-clause-right : goal.learn-requires-clause-right
+learn-requires-clause-right c =
     let p = problem_of c.args.inst.now in
     let g = c.args.group.now in
-    let v = c.of-kept.new.numbers in
-    let k = c.of-kept.result in
-    let e = c.of-kept.ensures in
-    let place = c.len-place.result in
-    let more = c.count_new.new.counts.items in
-    let row : Row = record { group = g; low = 0; up = k.greedy } in
-    let room_rows = c.requires.room.rows in
-    let room_nodes = c.requires.room.nodes in
-    let many_rows = s.rows.ok.0 in
-    let many_nodes = s.nodes.ok.0 in
-    let rows = push-ok c.push.result s.rows.items c.push.new.self.items row (c.push.ensures.succeeds (omega arith)) c.push.ensures.items in
-    let nodes = push-ok c.push-2.result s.nodes.items c.push-2.new.self.items k (c.push-2.ensures.succeeds (omega arith)) c.push-2.ensures.items in
-    subst (λ l. AreKnown p v l c.push-2.new.self.items c.count_row.new.counts.items) (sym rows)
-    (subst (λ l. AreKnown p v (s.rows.items ++ row ∷ []) l c.count_row.new.counts.items) (sym nodes)
-    (subst (λ l. AreKnown p v (s.rows.items ++ row ∷ []) (s.nodes.items ++ k ∷ []) l) (sym c.count_row.ensures.counts)
-    (added-known c.args.inst.now s.numbers v s.rows.items s.nodes.items s.counts.items c.requires.known e.numbers e.keeps g k more place c.requires.real c.requires.new e.kept c.count_new.ensures.counts (c.len-place.ensures ∙ s.rows.ok.0))))
+    let within = wanted-within p (members g) c.requires.real.wanted in
+    greedy-right c.args.inst.now (members g) greatest_cost within (c.args.inst.now.stands.greedy_fits g within)
+
+pub list-requires-clause-place : goal.list-requires-clause-place
+list-requires-clause-place c =
+    let s = c.args.graph.now in
+    let row : Row = record { group = c.args.group.now; low = 0; up = greatest_cost } in
+    let place = c.len-place.ensures ∙ s.rows.ok.0 in
+    let more = ap length c.learn.ensures.rows ∙ length-append s.rows.items (row ∷ []) in
+    omega arith
 
 pub returns-clause-room : goal.returns-clause-room
-returns-clause-room c =
-    let s = c.args.graph.now in
-    let k = c.of-kept.result in
-    let row : Row = record { group = c.args.group.now; low = 0; up = k.greedy } in
-    let e = c.of-kept.ensures in
-    let same = e.capacity in
-    let one = e.one in
-    λ more room.
-    let room_rows = room.rows in
-    let room_nodes = room.nodes in
-    let room_lists = room.lists in
-    let room_counts = room.counts in
-    let room_numbers = room.numbers in
-    let many_rows = s.rows.ok.0 in
-    let many_nodes = s.nodes.ok.0 in
-    let many_lists = s.lists.ok.0 in
-    let left_lists = c.pop.new.self.ok.0 in
-    let rows = ap length (push-ok c.push.result s.rows.items c.push.new.self.items row (c.push.ensures.succeeds (omega arith)) c.push.ensures.items) ∙ length-append s.rows.items (row ∷ []) in
-    let nodes = ap length (push-ok c.push-2.result s.nodes.items c.push-2.new.self.items k (c.push-2.ensures.succeeds (omega arith)) c.push-2.ensures.items) ∙ length-append s.nodes.items (k ∷ []) in
-    let rows_room = c.push.ensures.capacity in
-    let nodes_room = c.push-2.ensures.capacity in
-    let popped = c.in-Some.ensures.cases in
-    let counts = c.count_new.ensures.capacity in
-    let counts_same = c.count_row.ensures.capacity in
-    record {
-      rows = omega arith;
-      nodes = omega arith;
-      lists = omega arith;
-      numbers = omega arith;
-      counts = omega arith;
-    }
+returns-clause-room c = λ more r. c.list.ensures.keeps more (c.learn.ensures.room more r)
 
 pub returns-clause-rows : goal.returns-clause-rows
 returns-clause-rows c =
-    let s = c.args.graph.now in
-    let row : Row = record { group = c.args.group.now; low = 0; up = c.of-kept.result.greedy } in
-    let room_rows = c.requires.room.rows in
-    let many_rows = s.rows.ok.0 in
-    push-ok c.push.result s.rows.items c.push.new.self.items row (c.push.ensures.succeeds (omega arith)) c.push.ensures.items
-    ∙ ap (λ n. s.rows.items ++ record { group = c.args.group.now; low = 0; up = n } ∷ []) c.of-kept.ensures.kept.greedy
+    let p = problem_of c.args.inst.now in
+    let old = c.args.graph.now.rows.items in
+    let g = c.args.group.now in
+    let row : Row = record { group = g; low = 0; up = greatest_cost } in
+    let place = c.len-place.ensures ∙ c.args.graph.now.rows.ok.0 in
+    let fits = c.args.inst.now.stands.greedy_fits g (wanted-within p (members g) c.requires.real.wanted) in
+    let least : min greatest_cost (greedy_cost p (members g)) ≡ greedy_cost p (members g) = omega arith in
+    c.list.ensures.rows ∙ ap (λ l. capped_at l c.len-place.result (greedy_cost p (members (group_at l c.len-place.result)))) c.learn.ensures.rows
+    ∙ ap (λ n. capped_at (old ++ row ∷ []) n (greedy_cost p (members (group_at (old ++ row ∷ []) n)))) place
+    ∙ ap (λ x. capped_at (old ++ row ∷ []) (length old) (greedy_cost p (members x))) (group-last old row) ∙ capped-last old row (greedy_cost p (members g)) ∙ ap (λ n. old ++ record { group = g; low = 0; up = n } ∷ []) least
 
 pub returns-clause-sound : goal.returns-clause-sound
 returns-clause-sound c = λ sound.
-    let s = c.args.graph.now in
-    let row : Row = record { group = c.args.group.now; low = 0; up = c.of-kept.result.greedy } in
-    let room_rows = c.requires.room.rows in
-    let many_rows = s.rows.ok.0 in
-    let rows = push-ok c.push.result s.rows.items c.push.new.self.items row (c.push.ensures.succeeds (omega arith)) c.push.ensures.items in
-    subst (AreSound (problem_of c.args.inst.now)) (sym rows)
-    (entered-sound c.args.inst.now s.rows.items c.args.group.now c.of-kept.result.greedy c.requires.real c.requires.new c.of-kept.ensures.kept.greedy sound)
+    subst (AreSound (problem_of c.args.inst.now)) (sym (returns-clause-rows c)) (entered-sound c.args.inst.now c.args.graph.now.rows.items c.args.group.now _ c.requires.real c.requires.new refl sound)

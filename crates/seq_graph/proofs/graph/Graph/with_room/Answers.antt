@@ -14,7 +14,6 @@ returns-clause-room c =
     record {
       rows = omega arith;
       nodes = omega arith;
-      lists = omega arith;
       numbers = o.held;
       counts = o.counts;
     }
