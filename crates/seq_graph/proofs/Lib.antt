@@ -21,3 +21,4 @@ pub mod RoomLaws
 pub mod SettleLaws
 pub mod OpenLaws
 pub mod StepLaws
+pub mod TogetherLaws
