@@ -28,7 +28,7 @@ pub struct Bounds {
 }
 
 /// No group costs more.
-pub(crate) const GREATEST_COST: u64 = 2_097_664_000_000_000_000;
+pub const GREATEST_COST: u64 = 2_097_664_000_000_000_000;
 
 /// What the tests of a group allow, by the one of least sum and those that are evaluated.
 pub(crate) fn bounds_by(inst: &Instance, graph: &Graph, place: usize, least: Least) -> Bounds

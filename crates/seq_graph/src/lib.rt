@@ -13,7 +13,8 @@
 //! groups that it came through from what is known of their parts (`back_up`: AO*'s revision from below
 //! upwards). Before a group is entered there is room for it: made for one more (`grow`), or for all at once
 //! (`Graph::with_room`), and then nothing takes memory. At the end `settle` gives each row the low and the value
-//! that the entered groups give it together. Whatever is kept saves work, and changes no result. Here too stands
+//! that the entered groups give it together, and so does `settle_together` for several graphs that have the same
+//! rows. Whatever is kept saves work, and changes no result. Here too stands
 //! the measure by which a walk ends.
 #![tactic(auto)]
 
@@ -21,7 +22,6 @@ mod bounds;
 mod choice;
 mod counts;
 mod events;
-mod finding;
 mod graph;
 mod greedy;
 mod laws;
@@ -40,9 +40,8 @@ mod sums;
 mod tests;
 mod waiting;
 
-pub use bounds::{Bounds, backed_up};
-pub use events::{add, back_up, enter, hear};
-pub use finding::place_of;
+pub use bounds::{Bounds, GREATEST_COST, backed_up};
+pub use events::{add, back_up, enter, hear, note};
 pub use graph::{Count, Graph};
 pub use laws::turns_move;
 pub use learning::{learn, list};
