@@ -188,12 +188,12 @@ taken-sound inst rows s =
       lows = taken-rows (λ x. x.low ≤ low p (groups_in (taken_rows rows)) x.group) rows (λ x i. subst (λ gs. x.low ≤ low p gs x.group) (sym same) (s.lows x i));
       ups = taken-rows (λ x. (v : ℕ) → val p (groups_in (taken_rows rows)) x.group ≡ Some v → v ≤ x.up) rows
           (from-row (λ x. (v : ℕ) → val p (groups_in (taken_rows rows)) x.group ≡ Some v → v ≤ min x.up greatest_cost) rows (λ r i v is.
-              let g = members r.group in
-              let old = subst (λ gs. val p gs g ≡ Some v) same is in
-              let a = s.ups _ i v old in
-              let b = val-le-greedy p (groups_in rows) g v old in
-              let c = inst.stands.greedy_fits r.group (wanted-within p g (s.real _ i).wanted) in
-              omega arith));
+          let g = members r.group in
+          let old = subst (λ gs. val p gs g ≡ Some v) same is in
+          let a = s.ups _ i v old in
+          let b = val-le-greedy p (groups_in rows) g v old in
+          let c = inst.stands.greedy_fits r.group (wanted-within p g (s.real _ i).wanted) in
+          omega arith));
     }
 
 -- ---- all graphs ----

@@ -65,4 +65,3 @@ returns-clause-settles c =
     (ap (λ n. heard n c.min.result r) b.ensures.low
     ∙ ap (λ n. heard (most_low p (rows_from rows) (members r.group)) n r) c.min.ensures
     ∙ row)
-
