@@ -1,20 +1,18 @@
 -- The tests of a group of which some are evaluated and some wait. A test that is evaluated leaves the list of those that wait
 -- and goes to the evaluated ones, and none other is touched: so each that was covered is covered still, whatever its sum.
 use Rattle.std.proofs.Common.{◌≡◌, ◌⊎◌, ℕ, zero, suc, ◌+◌, ◌<◌, ◌≤◌, Bool, filter, nat_le, cond, List, [], ◌∷◌, ◌++◌, length, get_or, inl, inr, refl, sym, ap, ◌∙◌, subst, arith, true, false, All, Contains, map, Some, slice_get, swap_remove, IsPermutation}
-use Rattle.std.proofs.lemmas.Bool.{cases_lt, cases_Bool, true≢false, le-leb, lt-leb, leb-true}
+use Rattle.std.proofs.lemmas.Bool.{cases_lt, cases_Bool, true≢false, le-leb, lt-leb}
 use Rattle.std.proofs.lemmas.List.{map-append}
 use Rattle.std.proofs.lemmas.List.Elements.{All-head, All-tail, All-nil, All-push, All-weaker, All-filter}
 use Rattle.std.proofs.lemmas.List.Sorted.{IsPermutation-swap_remove, All-permutation, Contains-permutation}
 use Rattle.std.proofs.lemmas.Option.{slice_get-get_or, slice_get_within}
-use Rattle.seq_theory.specs.Problem.{Problem, IsIn, splits, splitting, pass_part, fail_part, count_up, is_end, weight_of, IsWithin}
-use Rattle.seq_theory.specs.Bound.{bound, step_sum}
+use Rattle.seq_theory.specs.Problem.{Problem, IsIn, splits, splitting, pass_part, fail_part, count_up, weight_of, IsWithin}
+use Rattle.seq_theory.specs.Bound.{step_sum}
 use Rattle.seq_theory.specs.Greedy.{first_least}
-use Rattle.seq_theory.proofs.GroupLaws.{IsIn-filter, filter-IsIn, filter_passes, length-two_filters, pass_part_smaller, fail_part_smaller}
+use Rattle.seq_theory.proofs.GroupLaws.{IsIn-filter, filter-IsIn, filter_passes, pass_part_smaller}
 use Rattle.seq_theory.proofs.LeastLaws.{IsIn-count_up, count_up-IsIn}
 use Rattle.seq_theory.proofs.BelowLaws.{product-le}
-use Rattle.seq_inst.specs.declared.group.Group.{Group}
 use Rattle.seq_inst.specs.declared.instance.Instance.{Instance}
-use Rattle.seq_inst.specs.Members.{members}
 use Rattle.seq_inst.specs.Instances.{problem_of}
 use Rattle.seq_graph.specs.declared.node.Node.{Node}
 use Rattle.seq_graph.specs.declared.node.Split.{Split}

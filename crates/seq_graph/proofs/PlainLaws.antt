@@ -1,25 +1,20 @@
 -- Sums of tests the plain way. A group without a number has no row, so it counts its bound for a low. The loop over the tests
 -- keeps the lowest of least sum, and the least of what they give over ups.
-use Rattle.std.proofs.Common.{◌≡◌, ◌⊎◌, ℕ, zero, suc, ◌+◌, ◌*◌, ◌<◌, ◌≤◌, min, List, [], ◌∷◌, ◌++◌, length, refl, sym, ap, ◌∙◌, arith, inl, inr, subst, Option, Some, None}
-use Rattle.std.specs.Prelude.{Bool, true, false, cond, nat_le, ◌≢◌}
-use Rattle.std.specs.List.{filter_map, cons_option}
+use Rattle.std.proofs.Common.{◌≡◌, ◌⊎◌, ℕ, ◌+◌, ◌<◌, ◌≤◌, min, List, refl, sym, ap, ◌∙◌, arith, inl, inr, Option, Some, None}
+use Rattle.std.specs.Prelude.{true, false, nat_le, ◌≢◌}
+use Rattle.std.specs.List.{filter_map}
 use Rattle.std.proofs.lemmas.Bool.{cases_Bool, cases_lt, true≢false, leb-true, leb-false}
-use Rattle.seq_theory.specs.Problem.{Problem, IsIn, IsWithin, AreTold, count_up, splits, splitting, weight_of, is_end, least_of, pass_part, fail_part}
-use Rattle.seq_theory.specs.Bound.{bound, step_sum}
+use Rattle.seq_theory.specs.Problem.{Problem, IsIn, IsWithin, AreTold, splits, splitting, is_end}
+use Rattle.seq_theory.specs.Bound.{bound}
 use Rattle.seq_theory.specs.Graph.{is_entered, step_value, sum_with}
-use Rattle.seq_theory.specs.Greedy.{first_least, greedy_test, greedy_cost}
-use Rattle.seq_theory.specs.Rows.{Row as PlainRow, no_value, row_for, low_or, up_or, known_low, known_up, least_up}
+use Rattle.seq_theory.specs.Greedy.{first_least, greedy_test}
+use Rattle.seq_theory.specs.Rows.{no_value, known_low, known_up}
 use Rattle.seq_theory.proofs.GreedyLaws.{bound-end, greedy_test_splits}
-use Rattle.seq_theory.proofs.GroupLaws.{filter-IsIn, IsIn-filter}
-use Rattle.seq_theory.proofs.LeastLaws.{IsIn-count_up, count_up-IsIn}
 use Rattle.seq_theory.proofs.PartsRecursion.{splitting-splits, splitting-there}
-use Rattle.seq_theory.proofs.ValLaws.{least_of-first, least_of-values-le, values-at_least, IsLeastValue, is_first, is_at, least_value, sum_with-parts}
+use Rattle.seq_theory.proofs.ValLaws.{least_of-first, least_of-values-le, IsLeastValue, is_first, is_at, least_value}
 use Rattle.seq_huff.specs.Bounds.{greatest_cost}
-use Rattle.seq_inst.specs.declared.group.Group.{Group}
-use Rattle.seq_inst.specs.declared.instance.Instance.{Instance}
 use Rattle.seq_inst.specs.declared.outcome.Row.{Row}
 use Rattle.seq_inst.specs.Members.{members}
-use Rattle.seq_inst.specs.Instances.{problem_of}
 use Rattle.seq_core.specs.RowsOf.{rows_of as rows_from}
 use Rattle.seq_core.specs.Settled.{value_or}
 use Rattle.seq_graph.specs.declared.node.Node.{Node}
@@ -28,11 +23,9 @@ use Rattle.seq_graph.specs.declared.plain.Plain.{Plain}
 use Rattle.seq_graph.specs.Numbered.{Numbered}
 use Rattle.seq_graph.specs.Choice.{lesser_plain, LeastBelow}
 use Rattle.seq_graph.specs.Settling.{up_by, IsLeastUp, UpBelow}
-use Rattle.seq_graph.specs.Known.{AreRows, AreKnown, group_at}
-use Rattle.seq_graph.proofs.ChoiceLaws.{least_test-first, first_least-in}
+use Rattle.seq_graph.specs.Known.{AreKnown, group_at}
 use Rattle.seq_graph.proofs.GreedyChoiceLaws.{splitting-in, first-pick-up}
 use Rattle.seq_graph.proofs.LookLaws.{no-number}
-use Rattle.seq_graph.proofs.CountLaws.{up-small}
 
 -- ---- a group without a number ----
 

@@ -1,10 +1,10 @@
 -- Room is kept where no list is longer, none has less room, and no number that is held was used.
-use Rattle.std.proofs.Common.{◌≡◌, ℕ, ◌+◌, ◌<◌, ◌≤◌, List, [], ◌∷◌, ◌++◌, length, arith, sym, ap, ◌∙◌, subst, vec_capacity, Result, Ok, Err, IsOk, is_ok, if◌then◌else◌, true, false}
+use Rattle.std.proofs.Common.{◌≡◌, ◌≤◌, List, [], ◌∷◌, ◌++◌, length, arith, sym, vec_capacity, Result, Ok, Err, IsOk, is_ok, if◌then◌else◌, true, false}
 use Rattle.std.specs.Prelude.{is_err}
 use Rattle.std.proofs.lemmas.Bool.{true≢false}
 use Rattle.seq_graph.specs.declared.graph.Graph.{Graph}
-use Rattle.seq_graph.specs.Numbered.{Numbered, capacity, KeepsNumberRoom}
-use Rattle.seq_graph.specs.Rooms.{HasRoom, KeepsRoom}
+use Rattle.seq_graph.specs.Numbered.{capacity}
+use Rattle.seq_graph.specs.Rooms.{KeepsRoom}
 
 pub keeps-room : (old new : Graph) → length new.rows.items ≡ length old.rows.items → vec_capacity old.rows ≤ vec_capacity new.rows → length new.nodes.items ≡ length old.nodes.items → vec_capacity old.nodes ≤ vec_capacity new.nodes
     → old.numbers.held ≤ new.numbers.held → (capacity old.numbers ≤ vec_capacity old.counts → capacity new.numbers ≤ vec_capacity new.counts) → KeepsRoom old new

@@ -2,7 +2,7 @@
 -- groups. So the row that its tests tighten is settled, too: all its tests give its low; and of those that give its value one is
 -- evaluated, or else greedy costs no more, by whose cost the row is capped. For a test that was left out gives more than the row's up,
 -- which is no less than the value, and one that waits has a part without a value.
-use Rattle.std.proofs.Common.{◌≡◌, ◌⊎◌, ℕ, zero, suc, ◌+◌, ◌*◌, ◌<◌, ◌≤◌, max, min, List, [], ◌∷◌, length, length-set, map, set, slice_get, slice_index, get_or-set_same, get_or-set_other, refl, sym, ap, ◌∙◌, arith, inl, inr, subst, Some, None}
+use Rattle.std.proofs.Common.{◌≡◌, ◌⊎◌, ℕ, zero, suc, ◌*◌, ◌<◌, ◌≤◌, max, min, List, [], ◌∷◌, length, length-set, map, set, slice_get, refl, sym, ap, ◌∙◌, arith, inl, inr, subst, Some, None}
 use Rattle.std.specs.Prelude.{Bool, true}
 use Rattle.std.specs.List.{filter_map}
 use Rattle.seq_theory.specs.Problem.{Problem, least_of, IsIn, IsWithin, pass_part, fail_part, fails, splitting, weight_of}
@@ -15,8 +15,6 @@ use Rattle.seq_theory.proofs.GreedyLaws.{part-within}
 use Rattle.seq_theory.proofs.PartsRecursion.{splitting-splits}
 use Rattle.seq_theory.proofs.LowLaws.{low-le-least}
 use Rattle.seq_theory.proofs.ValLaws.{val-entered, least-le-val, least_of-values-le, IsLeastValue, is_first, is_at, least_value, sum_with-parts}
-use Rattle.seq_theory.proofs.CountedLaws.{counted-length, counted-below}
-use Rattle.seq_inst.specs.declared.group.Group.{Group}
 use Rattle.seq_inst.specs.declared.instance.Instance.{Instance}
 use Rattle.seq_inst.specs.declared.outcome.Row.{Row}
 use Rattle.seq_inst.specs.Members.{members}
@@ -35,7 +33,7 @@ use Rattle.seq_graph.specs.Looks.{NoneIsValued}
 use Rattle.seq_graph.specs.Settling.{evaluated_up, IsGreedyCap, IsLeastUp, IsSettledUp}
 use Rattle.seq_graph.proofs.KnownLaws.{row-real, row-within}
 use Rattle.seq_graph.proofs.RowLaws.{row-among, row-entered}
-use Rattle.seq_graph.proofs.EventLaws.{set-itself, groups-set, length-from}
+use Rattle.seq_graph.proofs.EventLaws.{groups-set, length-from}
 use Rattle.seq_graph.proofs.SplitLaws.{kept-there}
 use Rattle.seq_graph.proofs.CapLaws.{below-greedy, cap-above}
 
@@ -195,9 +193,6 @@ closed-settled inst rows known sound k lt closed =
         ap (λ n. record { group = r.group; low = n; up = value_or (val p (groups_in rows) g) }) low_is
         ∙ ap (λ o. record { group = r.group; low = r.low; up = value_or o }) value
         ∙ ap (λ n. record { group = r.group; low = r.low; up = n }) up_is
-
-pub closed-set : (inst : Instance) (rows : List Row) → AreRows (problem_of inst) rows → AreSound (problem_of inst) rows → (k : ℕ) → k < length rows → IsClosedAt rows k → rows ≡ set rows k (settled_row (problem_of inst) (groups_in rows) (row_at rows k))
-closed-set inst rows known sound k lt closed = sym (ap (set rows k) (closed-settled inst rows known sound k lt closed) ∙ set-itself rows k)
 
 -- so such a row stays as it is where it hears its own bounds
 pub closed-heard : (inst : Instance) (rows : List Row) → AreRows (problem_of inst) rows → AreSound (problem_of inst) rows → (k : ℕ) → k < length rows → (r : Row) → r ≡ row_at rows k → r.low ≡ r.up

@@ -1,6 +1,6 @@
 -- Raising and capping a group by the test of least sum and the evaluated ones is allowed, and closes the group where both parts by
 -- that test are closed: its sum over lows, to which the group is raised, is one of the sums by which it is capped.
-use Rattle.std.proofs.Common.{◌≡◌, ℕ, zero, suc, ◌<◌, ◌≤◌, max, min, List, [], ◌∷◌, length, get_or, map, ap, ◌∙◌, arith, inl, inr, refl, subst, Option, Some, None}
+use Rattle.std.proofs.Common.{◌≡◌, ℕ, ◌<◌, ◌≤◌, max, min, List, length, get_or, map, ap, ◌∙◌, arith, refl, subst, Option, Some, None}
 use Rattle.seq_theory.specs.Problem.{IsIn, splitting}
 use Rattle.seq_theory.specs.Bound.{step_sum}
 use Rattle.seq_theory.specs.Greedy.{greedy_cost}

@@ -55,7 +55,12 @@ pub fn learn(inst: &Instance, graph: &mut Graph, group: &Group, bounds: Bounds)
     let alloc = *graph.rows.allocator();
     let kept = Node::of(&mut graph.numbers, inst, group, alloc);
     count_new(inst, &graph.numbers, &mut graph.counts);
-    count_row(&mut graph.counts, kept.number as usize, bounds, place as u32);
+    count_row(
+        &mut graph.counts,
+        kept.number as usize,
+        bounds,
+        place as u32,
+    );
     let _ = graph.rows.push(Row {
         group: *group,
         low: bounds.low,

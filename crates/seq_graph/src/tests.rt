@@ -8,7 +8,10 @@ ghost use Rattle.seq_graph.specs.Numbered.{AreNumbersFor};
 
 use crate::bounds::GREATEST_COST;
 use crate::learning::greedys_cost;
-use crate::{Bounds, Graph, Growth, Lists, Node, Numbers, Split, Step, backed_up, grow, learn, list, next_step};
+use crate::{
+    Bounds, Graph, Growth, Lists, Node, Numbers, Split, Step, backed_up, grow, learn, list,
+    next_step,
+};
 use seq_inst::{Answer, Group, Instance, Strategy, checked_holds, is_leaf, part, root};
 use std::alloc::{AllocError, Global};
 use std::test::Fail;
@@ -132,7 +135,10 @@ fn a_learnt_row_counts_for_its_parent(rt: HostRuntime) -> Result<(), Fail> {
     list(&inst, &mut graph, 0);
     let listed = graph.rows[0];
     assert_eq!(rt; (listed.low, listed.up), (0, 27));
-    assert_eq!(rt; (graph.nodes[0].capped, graph.nodes[0].waiting.len()), (true, 1));
+    assert_eq!(rt;
+        (graph.nodes[0].capped, graph.nodes[0].waiting.len()),
+        (true, 1)
+    );
     Ok(())
 }
 

@@ -1,4 +1,4 @@
-use Rattle.std.proofs.Common.{◌≡◌, ◌∙◌, ◌+◌, ◌<◌, ◌≤◌, ◌∷◌, ◌++◌, [], min, length, length-append, refl, sym, ap, subst, arith}
+use Rattle.std.proofs.Common.{◌≡◌, ◌∙◌, ◌∷◌, ◌++◌, [], min, length, length-append, refl, sym, ap, subst, arith}
 use Rattle.seq_theory.specs.Greedy.{greedy_cost}
 use Rattle.seq_theory.proofs.RowLaws.{wanted-within}
 use Rattle.seq_huff.specs.Bounds.{greatest_cost}

@@ -1,4 +1,4 @@
-use Rattle.std.proofs.Common.{◌∙◌, ◌≤◌, length, vec_capacity, refl, sym, ap, subst, arith}
+use Rattle.std.proofs.Common.{◌∙◌, length, refl, sym, ap, subst, arith}
 use Rattle.std.proofs.Math.ListN.{length-set}
 use Rattle.seq_graph.proofs.RoomLaws.{keeps-room}
 use Rattle.std.proofs.lemmas.Option.{slice_get_within}
@@ -6,7 +6,7 @@ use Rattle.seq_inst.specs.Instances.{problem_of}
 use Rattle.seq_graph.specs.Known.{AreKnown, AreSound, Narrows, IsClosedAt, capped_at, raised_at}
 use Rattle.seq_graph.proofs.CountLaws.{kept-read, counts-long}
 use Rattle.seq_graph.proofs.CountChanges.{narrowed-known}
-use Rattle.seq_graph.proofs.EventLaws.{heard-rows, heard-refreshed, heard-sound, refreshed}
+use Rattle.seq_graph.proofs.EventLaws.{heard-rows, heard-sound, refreshed}
 use Rattle.seq_graph.proofs.events.note.Goals as goal
 
 pub narrow-requires : goal.narrow-requires

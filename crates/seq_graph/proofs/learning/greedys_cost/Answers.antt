@@ -1,4 +1,4 @@
-use Rattle.std.proofs.Common.{◌≡◌, ◌∙◌, ◌+◌, ◌≤◌, length, arith}
+use Rattle.std.proofs.Common.{arith}
 use Rattle.seq_inst.specs.Instances.{problem_of}
 use Rattle.seq_graph.proofs.NumberLaws.{keeps-long}
 use Rattle.seq_graph.proofs.CountLaws.{counts-long}

@@ -1,15 +1,14 @@
-use Rattle.std.proofs.Common.{◌≡◌, ◌∙◌, ◌<◌, ◌≤◌, min, length, set, refl, sym, ap, subst, arith}
+use Rattle.std.proofs.Common.{◌∙◌, sym, ap, subst, arith}
 use Rattle.std.proofs.lemmas.List.{get_or_read}
 use Rattle.seq_theory.specs.Problem.{IsWithin}
 use Rattle.seq_theory.specs.Greedy.{greedy_cost}
 use Rattle.seq_inst.specs.declared.outcome.Row.{Row}
 use Rattle.seq_inst.specs.Members.{members}
 use Rattle.seq_inst.specs.Instances.{problem_of}
-use Rattle.seq_core.specs.RowsOf.{rows_of as rows_from}
-use Rattle.seq_graph.specs.Known.{AreSound, AreBounds, Allow, Narrows, no_row, row_at, group_at, capped_at}
+use Rattle.seq_graph.specs.Known.{AreSound, AreBounds, Allow, no_row, group_at}
 use Rattle.seq_graph.proofs.KnownLaws.{row-within}
 use Rattle.seq_graph.proofs.CountLaws.{kept-read}
-use Rattle.seq_graph.proofs.EventLaws.{Narrows-refl, greedy-right, heard-capped, cap-allowed, already-capped}
+use Rattle.seq_graph.proofs.EventLaws.{Narrows-refl, greedy-right, cap-allowed, already-capped}
 use Rattle.seq_graph.proofs.learning.list.Goals as goal
 
 pub returns-then-index-clause-rows : goal.returns-then-index-clause-rows

@@ -1,7 +1,4 @@
-use Rattle.std.proofs.Common.{◌≡◌, ◌∙◌, ◌+◌, ◌≤◌, length, sym, ap, arith, refl, subst, vec_capacity}
-use Rattle.seq_inst.specs.Instances.{problem_of}
-use Rattle.seq_graph.specs.Known.{AreKnown}
-use Rattle.seq_graph.proofs.RoomLaws.{keeps-room, keeps-room-both}
+use Rattle.std.proofs.Common.{length, ap, arith, vec_capacity}
 use Rattle.seq_graph.proofs.rooms.grow.Goals as goal
 
 pub returns-clause-room : goal.returns-clause-room

@@ -1,4 +1,4 @@
-use Rattle.std.proofs.Common.{◌≡◌, ◌∙◌, ◌+◌, ◌≤◌, length, sym, ap, arith, refl, subst, vec_capacity}
+use Rattle.std.proofs.Common.{◌∙◌, length, ap, arith, vec_capacity}
 use Rattle.seq_graph.proofs.graph.Graph.with_room.Goals as goal
 
 pub returns-clause-room : goal.returns-clause-room
