@@ -1,12 +1,11 @@
 -- A graph that has the first of some rows takes all in, one after another: at each turn the rows before have the taken bounds, and
 -- the others are as they were. Since no group stands twice, a row past the graph's rows is new to it.
-use Rattle.std.proofs.Common.{◌≡◌, ◌≢◌, ℕ, zero, suc, ◌+◌, ◌<◌, ◌≤◌, max, min, List, [], ◌∷◌, ◌++◌, length, map, set, refl, sym, ap, ◌∙◌, arith, inl, inr, subst, Some, length-append}
-use Rattle.std.specs.Prelude.{true, false, All, slice_index_or}
-use Rattle.std.proofs.lemmas.Bool.{cases_lt, or_parts, or_from}
+use Rattle.std.proofs.Common.{◌≡◌, ℕ, suc, ◌+◌, ◌<◌, ◌≤◌, max, min, List, [], ◌∷◌, ◌++◌, length, map, set, refl, sym, ap, ◌∙◌, arith, inl, inr, subst, Some, length-append}
+use Rattle.std.specs.Prelude.{false, All, slice_index_or}
+use Rattle.std.proofs.lemmas.Bool.{cases_lt, or_from}
 use Rattle.std.proofs.lemmas.List.{get_or-set_same, get_or-set_other, length-set, get_or_append_left}
 use Rattle.std.proofs.Math.Seq.{get_or-append_seam}
 use Rattle.seq_theory.specs.Problem.{Problem, IsWeighed, AreTold}
-use Rattle.seq_theory.specs.Greedy.{greedy_cost}
 use Rattle.seq_theory.specs.Graph.{same_group, is_entered, low, val, IsReal}
 use Rattle.seq_theory.specs.Rows.{Row as PlainRow, IsRow, IsSound, AreDistinct}
 use Rattle.seq_theory.proofs.LeastLaws.{least, IsLeast-least, IsLeast-one}

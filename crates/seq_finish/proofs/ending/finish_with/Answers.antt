@@ -1,4 +1,4 @@
-use Rattle.std.proofs.Common.{◌≡◌, ◌∙◌, ◌≤◌, length, sym, ap, subst, arith}
+use Rattle.std.proofs.Common.{◌≡◌, ◌∙◌, sym, ap, subst, arith}
 use Rattle.std.specs.Prelude.{true, IfOk}
 use Rattle.seq_theory.specs.Problem.{all_classes}
 use Rattle.seq_theory.specs.Graph.{is_entered}

@@ -1,8 +1,7 @@
-use Rattle.std.proofs.Common.{◌≡◌, ◌∙◌, ◌+◌, ◌<◌, ◌≤◌, ◌∷◌, ◌++◌, [], length, set, sym, ap, subst, arith, inl, inr}
+use Rattle.std.proofs.Common.{◌+◌, length, sym, subst, arith, inl, inr}
 use Rattle.std.proofs.lemmas.Bool.{cases_lt}
 use Rattle.seq_inst.specs.Instances.{problem_of}
-use Rattle.seq_graph.specs.Known.{no_row, row_at}
-use Rattle.seq_finish.specs.Taking.{taken_row}
+use Rattle.seq_graph.specs.Known.{no_row}
 use Rattle.seq_finish.proofs.OutcomeLaws.{row-among}
 use Rattle.seq_finish.proofs.TakeLaws.{AreTakenTo, taken-none, taken-set, taken-push, taken-all, taken-new, row-bounds}
 use Rattle.seq_finish.proofs.taking.take_in.Goals as goal

@@ -1,4 +1,4 @@
-use Rattle.std.proofs.Common.{◌≡◌, ◌∙◌, length, set, sym, ap, subst, arith}
+use Rattle.std.proofs.Common.{◌∙◌, set, sym, ap, subst}
 use Rattle.seq_inst.specs.Members.{members}
 use Rattle.seq_inst.specs.Instances.{problem_of}
 use Rattle.seq_graph.specs.Known.{AreBounds, AreSound, row_at, group_at, heard}

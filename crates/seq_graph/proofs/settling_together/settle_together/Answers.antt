@@ -1,7 +1,6 @@
 use Rattle.std.proofs.Common.{◌≡◌, ◌<◌, ◌+◌, ◌∙◌, length, set, slice_index, refl, sym, ap, arith, subst}
 use Rattle.std.proofs.lemmas.List.{get_or_read}
 use Rattle.seq_inst.specs.Instances.{problem_of}
-use Rattle.seq_inst.specs.declared.outcome.Row.{Row}
 use Rattle.seq_theory.proofs.CountedLaws.{counted-length, counted-below}
 use Rattle.seq_core.specs.Settled.{groups_in, size_at, settled_row, AreSettledBelow, AreSettling, IsAmongFirst, IsBySize}
 use Rattle.seq_graph.specs.declared.graph.Graph.{Graph}

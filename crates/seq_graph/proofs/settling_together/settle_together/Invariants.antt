@@ -1,4 +1,4 @@
-use Rattle.std.proofs.Common.{◌≡◌, ◌≤◌, length}
+use Rattle.std.proofs.Common.{◌≡◌, length}
 use Rattle.std.specs.Prelude.{All}
 use Rattle.seq_graph.specs.declared.graph.Graph.{Graph}
 use Rattle.seq_inst.specs.Instances.{problem_of}
