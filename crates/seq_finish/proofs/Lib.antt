@@ -3,4 +3,4 @@ pub mod RowLaws
 pub mod PlaceLaws
 pub mod StratLaws
 pub mod OutcomeLaws
-pub mod JoinLaws
+pub mod TakeLaws

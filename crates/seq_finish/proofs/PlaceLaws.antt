@@ -30,14 +30,14 @@ placed-more rows i d lt =
     length-take [] (suc i) le = absurd (let bad : ⊥ = omega arith in bad)
     length-take (x ∷ xs) (suc i) le = ap suc (length-take xs i (omega arith))
 
-not-same : (a b : List ℕ) → same_group b a ≡ false → same_group a b ≡ false
+pub not-same : (a b : List ℕ) → same_group b a ≡ false → same_group a b ≡ false
 not-same a b e = elim (cases_Bool (same_group a b)) [
   | inr n ↦ n
   | inl y ↦ absurd (true≢false (sym (subst (λ g. same_group g a ≡ true) (same_group-true a b y) (same_group-refl a)) ∙ e))
 ]
 
 -- a group that is one of the rest is not the first of distinct ones
-other-than : (rows : List Row) (g : List ℕ) (i : ℕ) (d : Row) → i < length rows → is_entered (groups_in rows) g ≡ false → same_group g (members (get_or rows i d).group) ≡ false
+pub other-than : (rows : List Row) (g : List ℕ) (i : ℕ) (d : Row) → i < length rows → is_entered (groups_in rows) g ≡ false → same_group g (members (get_or rows i d).group) ≡ false
 other-than [] g i d lt e = absurd (let bad : ⊥ = omega arith in bad)
 other-than (r ∷ rest) g zero d lt e = (or_parts (same_group g (members r.group)) (is_entered (groups_in rest) g) e).0
 other-than (r ∷ rest) g (suc i) d lt e = other-than rest g i d (omega arith) (or_parts (same_group g (members r.group)) (is_entered (groups_in rest) g) e).1

@@ -1,3 +1,3 @@
 pub mod Outcomes
-pub mod Joining
+pub mod Taking
 pub mod Laws

@@ -1,5 +1,5 @@
 //! The outcome of a search's rows.
-ghost use Rattle.std.specs.Prelude.{◌≡◌, ◌≤◌, ◌↔◌, false, true, length, IfOk, None, vec_len};
+ghost use Rattle.std.specs.Prelude.{◌≡◌, ◌≤◌, ◌↔◌, false, true, All, length, IfOk, None, vec_len};
 ghost use Rattle.seq_theory.specs.Problem.{all_classes, is_end};
 ghost use Rattle.seq_theory.specs.Tree.{AsksOnly};
 ghost use Rattle.seq_theory.specs.Graph.{is_entered, low, val};
@@ -11,16 +11,16 @@ ghost use Rattle.seq_core.specs.RowsOf.{rows_of as rows_from};
 ghost use Rattle.seq_core.specs.Settled.{groups_in, settled_rows};
 ghost use Rattle.seq_core.specs.Entered.{MayStop};
 ghost use Rattle.seq_graph.specs.Numbered.{AreNumbersFor};
-ghost use Rattle.seq_graph.specs.Behind.{AreBehind};
+ghost use Rattle.seq_graph.specs.Behind.{AreFirstOf};
 ghost use Rattle.seq_graph.specs.Known.{IsGraphOf};
 ghost use Rattle.seq_finish.specs.Outcomes.{AreEntered, IsRightOutcome};
 ghost use Rattle.seq_finish.specs.Laws.{Stands};
 
-use crate::joining::{join, settled_by};
 use crate::laws::outcomes_hold;
 use crate::places::{bounds_of, index_of};
 use crate::strategy::strategy_of;
-use seq_graph::{Graph, Growth, Numbers, settle};
+use crate::taking::take_in_all;
+use seq_graph::{Graph, Numbers, settle, settle_together};
 use seq_inst::{Group, Instance, Outcome, Row, Verdict, root};
 use std::alloc::{AllocError, Global};
 
@@ -68,24 +68,26 @@ pub fn finish(
     ensures leaves { IfOk result (λ o. leaf_count (tree_of o.strategy) ≤ vec_len inst.now.weights) }
     ensures short { IfOk result (λ o. height (tree_of o.strategy) ≤ 512) }
 {
-    let graph = Graph::new(alloc, inst)?;
-    finish_with(alloc, inst, limit, graph, rows, missed)
+    let mut graphs = Vec::new(alloc);
+    graphs.push(Graph::new(alloc, inst)?)?;
+    finish_with(alloc, inst, limit, graphs, rows, missed)
 }
 
-/// What `finish` makes of these rows, made from a graph that is behind them, as each worker's is behind what
-/// all workers found. What the graph has is not worked out anew: its groups' tests and greedy's costs. So the
-/// cost is that of listing the groups that it has not, and of settling. A graph that was made with room may take
-/// memory from here on.
+/// What `finish` makes of these rows, made from the graphs of several workers, which have the first of them each.
+/// What the graphs have is not worked out anew: a row's tests are listed in the graph of each worker that came
+/// through it, and it is settled there. So the cost is that of learning in each graph the rows that it has not, and
+/// of settling once. Graphs that were made with room may take memory from here on.
 pub fn finish_with(
     alloc: Global,
     inst: &Instance,
     limit: u32,
-    mut graph: Graph,
+    mut graphs: Vec<Graph>,
     rows: Vec<Row>,
     missed: Option<Group>,
 ) -> Result<Outcome, AllocError>
-    requires known { IsGraphOf inst.now graph }
-    requires behind { AreBehind rows.items graph.rows.items }
+    requires some { 1 ≤ length graphs.items }
+    requires known { All (IsGraphOf inst.now) graphs.items }
+    requires first { All (λ g. AreFirstOf rows.items g.rows.items) graphs.items }
     requires sound { IsSound (problem_of inst.now) limit (rows_from rows.items) }
     requires root { is_end (problem_of inst.now) (all_classes (problem_of inst.now)) ≡ false → is_entered (groups_in rows.items) (all_classes (problem_of inst.now)) ≡ true }
     requires stopped { MayStop (problem_of inst.now) limit (groups_in rows.items) missed }
@@ -99,11 +101,10 @@ pub fn finish_with(
     ensures leaves { IfOk result (λ o. leaf_count (tree_of o.strategy) ≤ vec_len inst.now.weights) }
     ensures short { IfOk result (λ o. height (tree_of o.strategy) ≤ 512) }
 {
-    graph.growth = Growth::Free;
-    join(alloc, inst, &mut graph, rows.as_slice())?;
-    settle(alloc, inst, &mut graph)?;
-    let settled = settled_by(alloc, inst, &graph, rows.as_slice())?;
-    finish_settled(alloc, inst, graph.numbers, limit, settled, missed)
+    take_in_all(alloc, inst, &mut graphs, rows.as_slice())?;
+    settle_together(alloc, inst, &mut graphs)?;
+    let graph = graphs.swap_remove(0);
+    finish_settled(alloc, inst, graph.numbers, limit, graph.rows, missed)
 }
 
 /// The outcome of a search that holds this graph: what `finish` makes of its rows. The graph settles them by

@@ -8,15 +8,16 @@
 //! numbers of a search spare work and change nothing of the outcome. Its worked values stand with the
 //! search on one thread, which makes the rows.
 //!
-//! A search on one thread ends with its graph (`finish_graph`). Where several workers searched, one of their
-//! graphs takes in what all found (`finish_with`). Rows alone are taken in by an empty graph (`finish`).
+//! A search on one thread ends with its graph (`finish_graph`). Where several workers searched, the graphs of all
+//! take in what all found, and each row is settled where its tests are listed (`finish_with`). Rows alone are taken
+//! in by an empty graph (`finish`).
 #![tactic(auto)]
 
 mod ending;
-mod joining;
 mod laws;
 mod places;
 mod strategy;
+mod taking;
 
 pub use ending::{finish, finish_graph, finish_with};
 pub use laws::outcomes_hold;

@@ -2,7 +2,7 @@
 -- count for a low is at most theirs; and to what it may be capped is at least its least cost.
 use Rattle.std.proofs.Common.{◌≡◌, ℕ, ◌*◌, ◌<◌, ◌≤◌, List, length, subst, arith, inl, inr, Some}
 use Rattle.std.proofs.lemmas.Bool.{cases_Bool}
-use Rattle.seq_theory.specs.Problem.{Problem, IsWithin, is_end, fails, pass_part, fail_part, splitting, weight_of}
+use Rattle.seq_theory.specs.Problem.{IsWithin, is_end, fails, pass_part, fail_part, splitting, weight_of}
 use Rattle.seq_theory.specs.Tree.{IsLeast}
 use Rattle.seq_theory.specs.Graph.{step_value}
 use Rattle.seq_theory.specs.Greedy.{greedy_cost}

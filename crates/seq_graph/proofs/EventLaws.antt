@@ -116,7 +116,7 @@ module _ (p : Problem) where
     ups = s.ups;
   }
 
-length-from : (rows : List Row) → length (rows_from rows) ≡ length rows
+pub length-from : (rows : List Row) → length (rows_from rows) ≡ length rows
 length-from [] = refl
 length-from (r ∷ rest) = ap suc (length-from rest)
 
@@ -128,7 +128,7 @@ pub record IsRefreshed (p : Problem) (old new : List Row) (k low up : ℕ) : Typ
   pub narrows : Narrows old new
   pub closes : up ≤ low → IsClosedAt new k
 
-groups-set : (rows : List Row) (k : ℕ) (x : Row) → x.group ≡ group_at rows k → groups_in (set rows k x) ≡ groups_in rows
+pub groups-set : (rows : List Row) (k : ℕ) (x : Row) → x.group ≡ group_at rows k → groups_in (set rows k x) ≡ groups_in rows
 groups-set [] k x e = refl
 groups-set (r ∷ rest) zero x e = ap (λ (g : Group). members g ∷ groups_in rest) e
 groups-set (r ∷ rest) (suc k) x e = ap (λ (l : List (List ℕ)). members r.group ∷ l) (groups-set rest k x e)

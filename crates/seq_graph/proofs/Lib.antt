@@ -22,3 +22,4 @@ pub mod SettleLaws
 pub mod OpenLaws
 pub mod StepLaws
 pub mod ChoosingLaws
+pub mod TogetherLaws

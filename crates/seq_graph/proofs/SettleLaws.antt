@@ -2,14 +2,14 @@
 -- groups. So the row that its tests tighten is settled, too: all its tests give its low; and of those that give its value one is
 -- evaluated, or else greedy costs no more, by whose cost the row is capped. For a test that was left out gives more than the row's up,
 -- which is no less than the value, and one that waits has a part without a value.
-use Rattle.std.proofs.Common.{◌≡◌, ℕ, ◌*◌, ◌<◌, ◌≤◌, min, List, ◌∷◌, length, map, set, slice_get, sym, ap, ◌∙◌, arith, inl, inr, subst, Some, None}
+use Rattle.std.proofs.Common.{◌≡◌, ◌⊎◌, ℕ, zero, suc, ◌*◌, ◌<◌, ◌≤◌, max, min, List, [], ◌∷◌, length, length-set, map, set, slice_get, refl, sym, ap, ◌∙◌, arith, inl, inr, subst, Some, None}
 use Rattle.std.specs.Prelude.{Bool, true}
 use Rattle.std.specs.List.{filter_map}
 use Rattle.seq_theory.specs.Problem.{Problem, least_of, IsIn, IsWithin, pass_part, fail_part, fails, splitting, weight_of}
 use Rattle.seq_theory.specs.Bound.{step_sum}
 use Rattle.seq_theory.specs.Greedy.{greedy_cost}
-use Rattle.seq_theory.specs.Graph.{low, val, step_value}
-use Rattle.seq_theory.specs.Rows.{no_value, known_low, known_up, most_low, least_up}
+use Rattle.seq_theory.specs.Graph.{low, val, step_value, IsReal}
+use Rattle.seq_theory.specs.Rows.{Row as PlainRow, IsRow, AreDistinct, no_value, known_low, known_up, most_low, least_up}
 use Rattle.seq_theory.proofs.GroupLaws.{pass_part_smaller, fail_part_smaller}
 use Rattle.seq_theory.proofs.GreedyLaws.{part-within}
 use Rattle.seq_theory.proofs.PartsRecursion.{splitting-splits}
@@ -33,7 +33,7 @@ use Rattle.seq_graph.specs.Looks.{NoneIsValued}
 use Rattle.seq_graph.specs.Settling.{evaluated_up, IsGreedyCap, IsLeastUp, IsSettledUp}
 use Rattle.seq_graph.proofs.KnownLaws.{row-real, row-within}
 use Rattle.seq_graph.proofs.RowLaws.{row-among, row-entered}
-use Rattle.seq_graph.proofs.EventLaws.{set-itself}
+use Rattle.seq_graph.proofs.EventLaws.{groups-set, length-from}
 use Rattle.seq_graph.proofs.SplitLaws.{kept-there}
 use Rattle.seq_graph.proofs.CapLaws.{below-greedy, cap-above}
 
@@ -194,5 +194,50 @@ closed-settled inst rows known sound k lt closed =
         ∙ ap (λ o. record { group = r.group; low = r.low; up = value_or o }) value
         ∙ ap (λ n. record { group = r.group; low = r.low; up = n }) up_is
 
-pub closed-set : (inst : Instance) (rows : List Row) → AreRows (problem_of inst) rows → AreSound (problem_of inst) rows → (k : ℕ) → k < length rows → IsClosedAt rows k → rows ≡ set rows k (settled_row (problem_of inst) (groups_in rows) (row_at rows k))
-closed-set inst rows known sound k lt closed = sym (ap (set rows k) (closed-settled inst rows known sound k lt closed) ∙ set-itself rows k)
+-- so such a row stays as it is where it hears its own bounds
+pub closed-heard : (inst : Instance) (rows : List Row) → AreRows (problem_of inst) rows → AreSound (problem_of inst) rows → (k : ℕ) → k < length rows → (r : Row) → r ≡ row_at rows k → r.low ≡ r.up
+    → heard r.low r.up (row_at rows k) ≡ settled_row (problem_of inst) (groups_in rows) (row_at rows k)
+closed-heard inst rows known sound k lt r is closed =
+    let x = row_at rows k in
+    let low_is = ap (λ (s : Row). s.low) is in
+    let up_is = ap (λ (s : Row). s.up) is in
+    let low_stays : max x.low r.low ≡ x.low = omega arith in
+    let up_stays : min x.up r.up ≡ x.up = omega arith in
+    ap (λ n. record { group = x.group; low = n; up = min x.up r.up }) low_stays
+    ∙ ap (λ n. record { group = x.group; low = x.low; up = n }) up_stays
+    ∙ sym (closed-settled inst rows known sound k lt (subst (λ (s : Row). s.low ≡ s.up) is closed))
+
+-- ---- a row that has settled among sound rows ----
+
+-- each of the theory's rows is the one that changed, or one of those before
+set-among : (rows : List Row) (k : ℕ) (x : Row) (r : PlainRow) → IsRow r (rows_from (set rows k x)) → (row_from x ≡ r) ⊎ IsRow r (rows_from rows)
+set-among [] k x r i = inr i
+set-among (s ∷ rest) zero x r (inl e) = inl e
+set-among (s ∷ rest) zero x r (inr i) = inr (inr i)
+set-among (s ∷ rest) (suc k) x r (inl e) = inr (inl e)
+set-among (s ∷ rest) (suc k) x r (inr i) = elim (set-among rest k x r i) [
+  | inl e ↦ inl e
+  | inr j ↦ inr (inr j)
+]
+
+pub settled-sound : (p : Problem) (rows : List Row) (k : ℕ) → k < length rows → AreSound p rows → AreSound p (set rows k (settled_row p (groups_in rows) (row_at rows k)))
+settled-sound p rows k lt sound =
+    let x = settled_row p (groups_in rows) (row_at rows k) in
+    let same : groups_in (set rows k x) ≡ groups_in rows = groups-set rows k x refl in
+    let real = sound.real _ (row-among rows k no_row lt) in
+    record {
+      few = (let f = sound.few in let a = length-from rows in let b = length-from (set rows k x) in let c = length-set rows k x in omega arith);
+      distinct = subst AreDistinct (sym same) sound.distinct;
+      real = λ r i. elim (set-among rows k x r i) [
+        | inl e ↦ subst (λ (y : PlainRow). IsReal p y.group) e real
+        | inr j ↦ sound.real r j
+      ];
+      lows = λ r i. subst (λ g. r.low ≤ low p g r.group) (sym same) (elim (set-among rows k x r i) [
+        | inl e ↦ subst (λ (y : PlainRow). y.low ≤ low p (groups_in rows) y.group) e (omega arith)
+        | inr j ↦ sound.lows r j
+      ]);
+      ups = λ r i. subst (λ g. (v : ℕ) → val p g r.group ≡ Some v → v ≤ r.up) (sym same) (elim (set-among rows k x r i) [
+        | inl e ↦ subst (λ (y : PlainRow). (v : ℕ) → val p (groups_in rows) y.group ≡ Some v → v ≤ y.up) e (λ v is. (let at = ap value_or is in omega arith))
+        | inr j ↦ sound.ups r j
+      ]);
+    }

@@ -10,7 +10,7 @@ use Rattle.seq_graph.specs.KeptOf.{HasParts}
 use Rattle.seq_graph.specs.Numbered.{Numbered}
 use Rattle.seq_inst.specs.declared.outcome.Row.{Row}
 use Rattle.seq_inst.specs.Members.{members}
-use Rattle.seq_graph.specs.Known.{IsKeptBy, AreKept, AreRows, no_row, row_at, group_at, splits_in, splits_at, waiting_in, waiting_at}
+use Rattle.seq_graph.specs.Known.{IsKeptBy, AreKept, AreRows, row_at, group_at, splits_in, splits_at, waiting_in, waiting_at}
 use Rattle.seq_theory.specs.Bound.{step_sum}
 use Rattle.seq_theory.specs.Greedy.{first_least}
 use Rattle.seq_theory.specs.Rows.{known_low}

@@ -15,3 +15,4 @@ pub mod Choosing
 pub mod Walks
 pub mod Behind
 pub mod Laws
+pub mod Together

@@ -51,8 +51,9 @@ fn narrow(counts: &mut Vec<Count>, number: usize, low: u64, up: u64)
     count.up = count.up.min(up);
 }
 
-/// Raises and caps the row of a place, and what its group counts.
-pub(crate) fn note(inst: &Instance, graph: &mut Graph, place: usize, bounds: Bounds)
+/// Raises and caps the row of a place, and what its group counts. No test is left out, so that it costs a look-up:
+/// for rows that are heard to be settled at once.
+pub fn note(inst: &Instance, graph: &mut Graph, place: usize, bounds: Bounds)
     requires known { IsGraphOf inst.now graph.old }
     requires place { place < length graph.old.rows.items }
     requires right { AreBounds (problem_of inst.now) (members (group_at graph.old.rows.items place)) bounds.low bounds.up }

@@ -11,12 +11,12 @@
 //!
 //! An engine enters groups (`enter`), goes down by tests of least sum (`next_step`), and raises and caps the
 //! groups that it came through from what is known of their parts (`back_up`: AO*'s revision from below
-//! upwards). Several workers can part ways by choosing among the tests that are near the least sum
-//! (`choose_step`), and glance at the groups on their way up (`seen_bounds`); those of today don't yet. Before a
-//! group is entered there is room for it: made for one more (`grow`), or for all at once (`Graph::with_room`), and
-//! then nothing takes memory. At the end `settle` gives each row the low and the value that the entered groups
-//! give it together. Whatever is kept saves work, and changes no result. Here too stands the measure by which a
-//! walk ends.
+//! upwards). Several workers part ways by choosing among the tests that are near the least sum (`choose_step`),
+//! and glance at the groups on their way up (`seen_bounds`). Before a group is entered there is room for it: made
+//! for one more (`grow`), or for all at once (`Graph::with_room`), and then nothing takes memory. At the end
+//! `settle` gives each row the low and the value that the entered groups give it together, and so does
+//! `settle_together` for several graphs that have the same rows. Whatever is kept saves work, and changes no
+//! result. Here too stands the measure by which a walk ends.
 #![tactic(auto)]
 
 mod bounds;
@@ -26,7 +26,6 @@ mod choosing;
 mod choosing_tests;
 mod counts;
 mod events;
-mod finding;
 mod glance;
 mod graph;
 mod greedy;
@@ -39,6 +38,7 @@ mod numbers;
 mod plain;
 mod rooms;
 mod settling;
+mod settling_together;
 mod steps;
 mod sums;
 #[cfg(test)]
@@ -47,8 +47,7 @@ mod waiting;
 
 pub use bounds::{Bounds, GREATEST_COST, backed_up};
 pub use choosing::{LeastParts, choose_step, least_parts};
-pub use events::{add, back_up, enter, hear};
-pub use finding::place_of;
+pub use events::{add, back_up, enter, hear, note};
 pub use glance::seen_bounds;
 pub use graph::{Count, Graph};
 pub use laws::turns_move;
@@ -57,4 +56,5 @@ pub use node::{Growth, Lists, Node, Split, Waiting};
 pub use numbers::Numbers;
 pub use rooms::grow;
 pub use settling::settle;
+pub use settling_together::settle_together;
 pub use steps::{Step, next_step};

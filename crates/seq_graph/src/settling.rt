@@ -9,7 +9,8 @@
 ghost use Rattle.std.specs.Prelude.{◌≡◌, ◌<◌, length, slice_set, IfOk};
 ghost use Rattle.seq_inst.specs.Instances.{problem_of};
 ghost use Rattle.seq_core.specs.Settled.{groups_in, size_at, settled_row, settled_rows, AreSettledBelow};
-ghost use Rattle.seq_graph.specs.Known.{AreSound, row_at, IsGraphOf};
+ghost use Rattle.seq_inst.specs.Members.{members};
+ghost use Rattle.seq_graph.specs.Known.{AreBounds, AreSound, heard, row_at, group_at, IsGraphOf};
 ghost use Rattle.seq_graph.specs.Settling.{IsGreedyCap, IsSettledUp};
 
 use crate::bounds::{Bounds, bounds_by};
@@ -50,6 +51,37 @@ fn settled_up(inst: &Instance, graph: &Graph, place: usize, up: u64, looked: boo
     plain_least_up(inst, graph, place)
 }
 
+/// The bounds that give the row at a place its low and its value, where those of all smaller groups are settled. No
+/// row changes: `note` tells the row.
+pub(crate) fn settling_bounds(inst: &Instance, graph: &mut Graph, place: usize) -> Bounds
+    requires known { IsGraphOf inst.now graph.old }
+    requires place { place < length graph.old.rows.items }
+    requires sound { AreSound (problem_of inst.now) graph.old.rows.items }
+    requires below { AreSettledBelow (problem_of inst.now) graph.old.rows.items (size_at graph.old.rows.items place) }
+    ensures known { IsGraphOf inst.now graph.new }
+    ensures rows { graph.new.rows.items ≡ graph.old.rows.items }
+    ensures right { AreBounds (problem_of inst.now) (members (group_at graph.old.rows.items place)) result.low result.up }
+    ensures settles { heard result.low result.up (row_at graph.old.rows.items place) ≡ settled_row (problem_of inst.now) (groups_in graph.old.rows.items) (row_at graph.old.rows.items place) }
+{
+    turns_settle();
+    let row = graph.rows[place];
+    if row.low == row.up {
+        return Bounds {
+            low: row.low,
+            up: row.up,
+        };
+    }
+    let greedy = greedy_cap(inst, graph, place);
+    let least = least_test(inst, graph, place);
+    let looked = look_at_all(inst, graph, place);
+    let bounds = bounds_by(inst, graph, place, least);
+    let up = settled_up(inst, graph, place, bounds.up, looked);
+    Bounds {
+        low: bounds.low,
+        up: up.min(greedy),
+    }
+}
+
 /// Gives the row at a place its low and its value, where those of all smaller groups are settled.
 fn settle_row(inst: &Instance, graph: &mut Graph, place: usize)
     requires known { IsGraphOf inst.now graph.old }
@@ -60,21 +92,8 @@ fn settle_row(inst: &Instance, graph: &mut Graph, place: usize)
     ensures rows { graph.new.rows.items ≡ slice_set graph.old.rows.items place (settled_row (problem_of inst.now) (groups_in graph.old.rows.items) (row_at graph.old.rows.items place)) }
     ensures sound { AreSound (problem_of inst.now) graph.new.rows.items }
 {
-    turns_settle();
-    let row = graph.rows[place];
-    if row.low == row.up {
-        return;
-    }
-    let greedy = greedy_cap(inst, graph, place);
-    let least = least_test(inst, graph, place);
-    let looked = look_at_all(inst, graph, place);
-    let bounds = bounds_by(inst, graph, place, least);
-    let up = settled_up(inst, graph, place, bounds.up, looked);
-    let settled = Bounds {
-        low: bounds.low,
-        up: up.min(greedy),
-    };
-    note(inst, graph, place, settled);
+    let bounds = settling_bounds(inst, graph, place);
+    note(inst, graph, place, bounds);
 }
 
 /// Gives each row the low and the value that the rows' groups give it together.

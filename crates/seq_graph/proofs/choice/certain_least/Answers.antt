@@ -1,4 +1,4 @@
-use Rattle.std.proofs.Common.{◌≡◌, ◌∙◌, ◌<◌, ℕ, List, length, arith, sym, ap, subst, Some}
+use Rattle.std.proofs.Common.{◌∙◌, arith, sym, ap, subst, Some}
 use Rattle.std.specs.Prelude.{Contains}
 use Rattle.std.proofs.lemmas.List.Elements.{All-contains}
 use Rattle.seq_theory.specs.Problem.{IsIn, splitting}
@@ -13,8 +13,7 @@ use Rattle.seq_core.specs.Settled.{value_or}
 use Rattle.seq_graph.specs.declared.node.Split.{Split}
 use Rattle.seq_graph.specs.KeptOf.{HasParts}
 use Rattle.seq_graph.specs.Choice.{IsLeastOf, IsCertain}
-use Rattle.seq_graph.specs.Known.{group_at, row_at, splits_at}
-use Rattle.seq_graph.specs.Steps.{least_test}
+use Rattle.seq_graph.specs.Known.{group_at, row_at}
 use Rattle.seq_graph.proofs.CountLaws.{kept-read}
 use Rattle.seq_graph.proofs.CoverLaws.{certain-first}
 use Rattle.seq_graph.proofs.SplitLaws.{splits-read, waiting-read, first-test, first-low}

@@ -1,17 +1,13 @@
-use Rattle.std.proofs.Common.{◌<◌, ◌∙◌, ℕ, List, length, arith, sym, ap, subst, Some}
-use Rattle.std.specs.Prelude.{Contains}
-use Rattle.std.proofs.lemmas.List.Elements.{All-contains}
+use Rattle.std.proofs.Common.{◌∙◌, ℕ, List, length, arith, sym, ap, subst, Some}
 use Rattle.seq_theory.specs.Bound.{step_sum}
 use Rattle.seq_theory.specs.Rows.{known_low}
 use Rattle.seq_inst.specs.declared.outcome.Row.{Row}
 use Rattle.seq_inst.specs.Members.{members}
 use Rattle.seq_inst.specs.Instances.{problem_of}
-use Rattle.seq_graph.specs.KeptOf.{HasParts}
 use Rattle.seq_core.specs.RowsOf.{rows_of as rows_from}
 use Rattle.seq_graph.specs.Choice.{IsLeastOf, IsChoice, IsCertain}
-use Rattle.seq_graph.specs.Known.{group_at, row_at, splits_at}
+use Rattle.seq_graph.specs.Known.{group_at, splits_at}
 use Rattle.seq_graph.proofs.ChoiceLaws.{choice-more}
-use Rattle.seq_graph.proofs.CountLaws.{kept-read}
 use Rattle.seq_graph.proofs.RoomLaws.{keeps-room-both}
 use Rattle.seq_graph.proofs.SplitLaws.{last-split, waiting-read}
 use Rattle.seq_graph.proofs.choice.least_test.Goals as goal

@@ -1,4 +1,4 @@
-use Rattle.std.proofs.Common.{◌≡◌, ◌∙◌, ◌<◌, length, sym, ap, arith, subst}
+use Rattle.std.proofs.Common.{arith}
 use Rattle.seq_theory.specs.Bound.{step_sum}
 use Rattle.seq_theory.specs.Rows.{known_low}
 use Rattle.seq_theory.proofs.PartsRecursion.{splitting-there}

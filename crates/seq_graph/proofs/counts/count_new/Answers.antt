@@ -1,4 +1,4 @@
-use Rattle.std.proofs.Common.{◌+◌, ◌<◌, ◌≤◌, vec_capacity, ◌∷◌, ◌++◌, [], length, ap, ◌∙◌, arith, length-append, map, drop}
+use Rattle.std.proofs.Common.{◌+◌, ◌<◌, ◌∷◌, ◌++◌, [], length, ap, ◌∙◌, arith, length-append, map, drop}
 use Rattle.seq_inst.specs.Instances.{problem_of}
 use Rattle.seq_graph.specs.Counts.{new_count}
 use Rattle.seq_graph.proofs.NumberLaws.{counts-next}

@@ -1,4 +1,4 @@
-use Rattle.std.proofs.Common.{◌≡◌, ◌∙◌, ◌+◌, ◌<◌, ◌≤◌, min, slice_index, sym, ap, arith, inl, inr, refl, subst}
+use Rattle.std.proofs.Common.{min, slice_index, arith, inl, inr, refl}
 use Rattle.seq_theory.specs.Bound.{bound, step_sum}
 use Rattle.seq_inst.specs.Members.{members}
 use Rattle.seq_inst.specs.Instances.{problem_of}

@@ -1,4 +1,4 @@
-use Rattle.std.proofs.Common.{◌≡◌, ◌∙◌, min, sym, ap, arith, refl, subst}
+use Rattle.std.proofs.Common.{◌∙◌, arith}
 use Rattle.seq_theory.specs.Bound.{bound, step_sum}
 use Rattle.seq_inst.specs.Members.{members}
 use Rattle.seq_inst.specs.Instances.{problem_of}

@@ -1,10 +1,7 @@
-use Rattle.std.proofs.Common.{◌≡◌, ◌∙◌, ◌<◌, length, sym, ap, arith, refl, subst}
+use Rattle.std.proofs.Common.{◌≡◌, ◌∙◌, ◌<◌, arith}
 use Rattle.std.proofs.lemmas.List.{get_or_read}
-use Rattle.seq_theory.specs.Problem.{Problem}
-use Rattle.seq_inst.specs.Members.{members}
 use Rattle.seq_inst.specs.Instances.{problem_of}
 use Rattle.seq_graph.proofs.GreedyChoiceLaws.{sum-fits}
-use Rattle.seq_graph.proofs.RoomLaws.{keeps-room-both}
 use Rattle.seq_graph.proofs.plain.plain_sum.Goals as goal
 
 pub low_of-pass-requires-clause-within : goal.low_of-pass-requires-clause-within

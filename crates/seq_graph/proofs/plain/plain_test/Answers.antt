@@ -1,15 +1,14 @@
-use Rattle.std.proofs.Common.{◌≡◌, ◌∙◌, ◌+◌, ◌<◌, length, sym, ap, arith, refl, subst, Some, None}
+use Rattle.std.proofs.Common.{◌∙◌, ◌+◌, sym, ap, arith, refl, subst, Some, None}
 use Rattle.std.proofs.lemmas.List.{get_or_read}
 use Rattle.seq_theory.specs.Problem.{IsWithin, weight_of}
 use Rattle.seq_theory.specs.Bound.{step_sum}
 use Rattle.seq_theory.specs.Rows.{known_low}
 use Rattle.seq_inst.specs.declared.outcome.Row.{Row}
-use Rattle.seq_inst.specs.declared.group.Group.{Group}
 use Rattle.seq_inst.specs.Members.{members}
 use Rattle.seq_inst.specs.Instances.{problem_of}
 use Rattle.seq_core.specs.RowsOf.{rows_of as rows_from}
 use Rattle.seq_graph.specs.Choice.{LeastBelow}
-use Rattle.seq_graph.specs.Known.{no_row, row_at, group_at}
+use Rattle.seq_graph.specs.Known.{no_row, group_at}
 use Rattle.seq_graph.proofs.KnownLaws.{row-within, row-real}
 use Rattle.seq_graph.proofs.CountLaws.{kept-read}
 use Rattle.seq_graph.proofs.PlainLaws.{least-none, least-all, least-some}

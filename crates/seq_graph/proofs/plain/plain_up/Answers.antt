@@ -1,14 +1,13 @@
-use Rattle.std.proofs.Common.{◌≡◌, ◌∙◌, ◌*◌, ◌+◌, ◌<◌, length, sym, ap, arith, refl, subst, Some, ℕ, List}
+use Rattle.std.proofs.Common.{◌≡◌, ◌∙◌, ◌*◌, ◌+◌, ap, arith, Some, ℕ, List}
 use Rattle.std.proofs.lemmas.List.{get_or_read}
 use Rattle.seq_theory.specs.Problem.{pass_part, fail_part, weight_of}
-use Rattle.seq_theory.specs.Graph.{step_value, sum_with}
-use Rattle.seq_theory.specs.Rows.{no_value, known_up}
+use Rattle.seq_theory.specs.Rows.{known_up}
 use Rattle.seq_inst.specs.declared.outcome.Row.{Row}
 use Rattle.seq_inst.specs.Members.{members}
 use Rattle.seq_inst.specs.Instances.{problem_of}
 use Rattle.seq_core.specs.RowsOf.{rows_of as rows_from}
 use Rattle.seq_core.specs.Settled.{value_or}
-use Rattle.seq_graph.specs.Known.{no_row, row_at, group_at}
+use Rattle.seq_graph.specs.Known.{no_row, group_at}
 use Rattle.seq_graph.proofs.KnownLaws.{row-within}
 use Rattle.seq_graph.proofs.ChoiceLaws.{sum-fits}
 use Rattle.seq_graph.proofs.CountLaws.{kept-read, up-small}

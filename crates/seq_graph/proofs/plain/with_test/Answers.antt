@@ -1,4 +1,4 @@
-use Rattle.std.proofs.Common.{◌≡◌, ◌∙◌, ◌+◌, ◌<◌, length, Some, sym, ap, arith, refl, subst}
+use Rattle.std.proofs.Common.{◌∙◌, ◌+◌, Some, sym, arith, subst}
 use Rattle.seq_theory.specs.Bound.{step_sum}
 use Rattle.seq_theory.specs.Rows.{known_low}
 use Rattle.seq_inst.specs.Members.{members}

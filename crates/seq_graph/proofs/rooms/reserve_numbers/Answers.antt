@@ -1,10 +1,8 @@
-use Rattle.std.proofs.Common.{◌≡◌, ◌∙◌, ◌+◌, ◌≤◌, ℕ, List, max, length, slice_get, sym, ap, arith, refl, subst, vec_capacity, Some}
+use Rattle.std.proofs.Common.{◌∙◌, slice_get, sym, ap, subst}
 use Rattle.seq_inst.specs.Instances.{problem_of}
-use Rattle.seq_graph.specs.Numbered.{Numbered, capacity, KeepsNumbers}
+use Rattle.seq_graph.specs.Numbered.{KeepsNumbers}
 use Rattle.seq_graph.specs.Known.{AreKnown}
-use Rattle.seq_graph.proofs.CountLaws.{counts-long}
 use Rattle.seq_graph.proofs.CountChanges.{numbers-known}
-use Rattle.seq_graph.proofs.RoomLaws.{keeps-room}
 use Rattle.seq_graph.proofs.rooms.reserve_numbers.Goals as goal
 
 pub returns-clause-known : goal.returns-clause-known

@@ -1,72 +1,20 @@
-use Rattle.std.proofs.Common.{◌≡◌, ◌∙◌, length, set, sym, ap, subst, arith}
-use Rattle.std.proofs.lemmas.List.{get_or_read}
-use Rattle.seq_inst.specs.declared.outcome.Row.{Row}
-use Rattle.seq_theory.specs.Rows.{most_low}
+use Rattle.std.proofs.Common.{◌∙◌, set, sym, ap, subst}
 use Rattle.seq_inst.specs.Members.{members}
 use Rattle.seq_inst.specs.Instances.{problem_of}
-use Rattle.seq_core.specs.RowsOf.{rows_of as rows_from}
-use Rattle.seq_core.specs.Settled.{groups_in, size_at, settled_row, AreSettledBelow}
-use Rattle.seq_graph.specs.Known.{AreSound, Allow, no_row, row_at, group_at, heard}
-use Rattle.seq_graph.specs.Settling.{IsGreedyCap}
-use Rattle.seq_graph.proofs.KnownLaws.{row-within}
-use Rattle.seq_graph.proofs.BoundsLaws.{allowed-right}
-use Rattle.seq_graph.proofs.SettleLaws.{tightened-settled, settled-allowed, closed-set}
+use Rattle.seq_graph.specs.Known.{AreBounds, AreSound, row_at, group_at, heard}
+use Rattle.seq_graph.proofs.SettleLaws.{settled-sound}
 use Rattle.seq_graph.proofs.settling.settle_row.Goals as goal
-
-pub returns-then-row-clause-rows : goal.returns-then-row-clause-rows
-returns-then-row-clause-rows c =
-    let rows = c.args.graph.now.rows.items in
-    let read = get_or_read rows c.args.place c.index-row.result.now c.requires.place c.index-row.ensures no_row in
-    closed-set c.args.inst.now rows c.requires.known.rows_are c.requires.sound c.args.place c.requires.place (subst (λ (r : Row). r.low ≡ r.up) read c.if-row.true)
 
 pub note-requires-clause-right : goal.note-requires-clause-right
 note-requires-clause-right c =
-    let p = problem_of c.args.inst.now in
-    let s = c.look_at_all-looked.new.graph in
-    let b = c.bounds_by-bounds in
-    let looked = ap (λ v. v.items) (c.look_at_all-looked.ensures.rows ∙ c.least_test-least.ensures.rows) in
-    let same = looked ∙ ap (λ v. v.items) c.greedy_cap-greedy.ensures.rows in
-    let long = ap length same in
-    let there = c.requires.place in
-    let known = c.look_at_all-looked.ensures.known.rows_are in
-    let cap = subst (λ l. IsGreedyCap p l c.args.place c.greedy_cap-greedy.result) (sym looked) c.greedy_cap-greedy.ensures.cap in
-    let allow = settled-allowed c.args.inst.now s.rows.items s.nodes.items c.args.place c.look_at_all-looked.result b.result.low b.result.up c.settled_up-up.result c.greedy_cap-greedy.result (row-within p s.rows.items known c.args.place (omega arith)) b.ensures.allowed c.settled_up-up.ensures cap in
-    allowed-right c.args.inst.now s.rows.items known c.args.place (omega arith) b.result.low c.min.result
-    (subst (Allow p s.rows.items (members (group_at s.rows.items c.args.place)) b.result.low) (sym c.min.ensures) allow)
+    let b = c.settling_bounds-bounds in
+    subst (λ l. AreBounds (problem_of c.args.inst.now) (members (group_at l c.args.place)) b.result.low b.result.up) (sym b.ensures.rows) b.ensures.right
 
 pub returns-clause-rows : goal.returns-clause-rows
 returns-clause-rows c =
-    let p = problem_of c.args.inst.now in
     let place = c.args.place in
-    let s = c.look_at_all-looked.new.graph in
-    let looked = ap (λ v. v.items) (c.look_at_all-looked.ensures.rows ∙ c.least_test-least.ensures.rows) in
-    let same = looked ∙ ap (λ v. v.items) c.greedy_cap-greedy.ensures.rows in
-    let long = ap length same in
-    let there = c.requires.place in
-    let below = subst (λ l. AreSettledBelow p l (size_at l place)) (sym same) c.requires.below in
-    let turn = c.turns_settle.ensures.turn c.args.inst.now (length s.rows.items) s.rows.items place (subst (AreSound p) (sym same) c.requires.sound) (omega arith) below in
-    let b = c.bounds_by-bounds in
-    let up_is = b.ensures.up in
-    let cap = subst (λ l. IsGreedyCap p l place c.greedy_cap-greedy.result) (sym looked) c.greedy_cap-greedy.ensures.cap in
-    let row = tightened-settled c.args.inst.now s.numbers s.rows.items s.nodes.items s.counts.items c.look_at_all-looked.ensures.known place (omega arith) turn c.look_at_all-looked.result b.result.up c.settled_up-up.result c.greedy_cap-greedy.result c.look_at_all-looked.ensures.valued
-    b.ensures.allowed.up_allowed (omega arith) c.settled_up-up.ensures cap in
-    let rows = s.rows.items in
-    let r = row_at rows place in
-    c.note.ensures.rows
-    ∙ ap (λ n. set rows place (heard n c.min.result r)) b.ensures.low
-    ∙ ap (λ n. set rows place (heard (most_low p (rows_from rows) (members r.group)) n r)) c.min.ensures
-    ∙ ap (set rows place) row ∙ ap (λ l. set l place (settled_row p (groups_in l) (row_at l place))) same
+    let b = c.settling_bounds-bounds in
+    c.note.ensures.rows ∙ ap (λ l. set l place (heard b.result.low b.result.up (row_at l place))) b.ensures.rows ∙ ap (set c.args.graph.now.rows.items place) b.ensures.settles
 
 pub returns-clause-sound : goal.returns-clause-sound
-returns-clause-sound c =
-    let p = problem_of c.args.inst.now in
-    let s = c.look_at_all-looked.new.graph in
-    let b = c.bounds_by-bounds in
-    let looked = ap (λ v. v.items) (c.look_at_all-looked.ensures.rows ∙ c.least_test-least.ensures.rows) in
-    let same = looked ∙ ap (λ v. v.items) c.greedy_cap-greedy.ensures.rows in
-    let long = ap length same in
-    let there = c.requires.place in
-    let cap = subst (λ l. IsGreedyCap p l c.args.place c.greedy_cap-greedy.result) (sym looked) c.greedy_cap-greedy.ensures.cap in
-    let allow = settled-allowed c.args.inst.now s.rows.items s.nodes.items c.args.place c.look_at_all-looked.result b.result.low b.result.up c.settled_up-up.result c.greedy_cap-greedy.result (row-within p s.rows.items c.look_at_all-looked.ensures.known.rows_are c.args.place (omega arith)) b.ensures.allowed c.settled_up-up.ensures cap in
-    c.note.ensures.sound (subst (Allow p s.rows.items (members (group_at s.rows.items c.args.place)) b.result.low) (sym c.min.ensures) allow)
-    (subst (AreSound p) (sym same) c.requires.sound)
+returns-clause-sound c = subst (AreSound (problem_of c.args.inst.now)) (sym (returns-clause-rows c)) (settled-sound (problem_of c.args.inst.now) c.args.graph.now.rows.items c.args.place c.requires.place c.requires.sound)

@@ -1,4 +1,4 @@
-use Rattle.std.proofs.Common.{◌≡◌, ◌<◌, ◌∙◌, length, sym, ap, subst, arith}
+use Rattle.std.proofs.Common.{◌<◌, ◌∙◌, length, sym, ap, subst, arith}
 use Rattle.seq_theory.specs.Bound.{bound}
 use Rattle.seq_theory.proofs.RowLaws.{same_group-true}
 use Rattle.seq_inst.specs.Instances.{problem_of}

@@ -1,4 +1,4 @@
-use Rattle.std.proofs.Common.{◌≡◌, false, sym, ap, subst, arith}
+use Rattle.std.proofs.Common.{◌≡◌, false, sym, subst}
 use Rattle.seq_theory.specs.Graph.{is_entered}
 use Rattle.seq_inst.specs.Instances.{problem_of}
 use Rattle.seq_inst.specs.Members.{members}
