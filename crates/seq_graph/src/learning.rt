@@ -71,7 +71,7 @@ pub fn learn(inst: &Instance, graph: &mut Graph, group: &Group, bounds: Bounds)
 
 /// What greedy costs over a group. The groups of greedy's tree get numbers while there is room for these and for
 /// what they count.
-pub(crate) fn greedys_cost(
+pub fn greedys_cost(
     inst: &Instance,
     graph: &mut Graph,
     group: &Group,

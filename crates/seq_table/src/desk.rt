@@ -6,7 +6,7 @@ ghost use Rattle.seq_inst.specs.Members.{members};
 ghost use Rattle.seq_words.specs.Knowledge.{problem_in, AreAlone, Covers};
 ghost use Rattle.seq_words.specs.Seats.{IsOf};
 ghost use Rattle.seq_table.specs.Agreed.{Agreed};
-ghost use Rattle.seq_table.specs.Enters.{Enters};
+ghost use Rattle.seq_table.specs.Enters.{Enters, KnowsAllBefore};
 
 use crate::naming::Naming;
 use seq_core::Places;
@@ -58,6 +58,7 @@ impl<N: Naming> Desk<N> {
         requires real { IsReal (problem_in N.words.told) (members group.now) }
         ensures of { IsOf N.words self.new.scribe }
         ensures entered { Enters N.words group.now self.new.scribe result }
+        ensures before { KnowsAllBefore self.new.scribe.view result }
     {
         match self.index.find(group) {
             Some(place) => Entered::At { place },
@@ -82,6 +83,7 @@ impl<N: Naming> Desk<N> {
         ensures covers { Covers seat.new.view seat.old.view }
         ensures alone { AreAlone seat.new.view }
         ensures entered { Enters N.words group.now seat.new result }
+        ensures before { KnowsAllBefore seat.new.view result }
     {
         let entered = self.draw(words, group);
         learn_at(words, &mut self.scribe, seat);

@@ -5,7 +5,7 @@ ghost use Rattle.seq_inst.specs.Members.{members};
 ghost use Rattle.seq_words.specs.Knowledge.{problem_in, AreAlone, Covers};
 ghost use Rattle.seq_words.specs.Seats.{IsOf};
 ghost use Rattle.seq_table.specs.Agreed.{Agreed};
-ghost use Rattle.seq_table.specs.Enters.{Enters};
+ghost use Rattle.seq_table.specs.Enters.{Enters, KnowsAllBefore};
 
 use crate::desk::{Desk, Entered};
 use crate::naming::Naming;
@@ -47,6 +47,7 @@ impl<N: Naming + Send + Sync> Tables<N> {
         ensures covers { Covers seat.new.view seat.old.view }
         ensures alone { AreAlone seat.new.view }
         ensures entered { Enters N.words group.now seat.new result }
+        ensures before { KnowsAllBefore seat.new.view result }
     {
         self.desk.lock(rt).enter_at(words, seat, group)
     }
@@ -66,6 +67,7 @@ impl<N: Naming + Send + Sync> Tables<N> {
         ensures covers { Covers result.0.view seat.view }
         ensures alone { AreAlone result.0.view }
         ensures entered { Enters N.words group.now result.0 result.1 }
+        ensures before { KnowsAllBefore result.0.view result.1 }
     {
         let mut seat = seat;
         let entered = self.enter_at(rt, words, &mut seat, group);

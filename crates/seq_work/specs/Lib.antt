@@ -1,4 +1,5 @@
 pub mod Works
+pub mod Growing
 pub mod Turns
 pub mod Ends
 pub mod Fans

@@ -19,9 +19,7 @@ pub record IsFresh (inst : Instance) (limit number : ℕ) (l : Local) : Type 0 w
   pub number_is : l.number ≡ number
   pub graph : IsGraph (problem_of inst) l.graph
   pub rows : l.graph.rows.items ≡ []
-  pub places : l.places.items ≡ []
   pub room : HasRoom limit l.graph
-  pub places_room : limit ≤ vec_capacity l.places
 
 -- workers that have done nothing, with numbers from the first on, one after the other
 abbrev pub AreFreshFrom : Instance → (limit first : ℕ) → List Local → Type 0

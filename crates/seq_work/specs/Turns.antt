@@ -1,5 +1,5 @@
 -- What one turn of a worker does.
-use Rattle.std.specs.Prelude.{cond, nat_eq, ◌%◌, ◌≢◌, ℕ, ◌<◌, Option, Some, None}
+use Rattle.std.specs.Prelude.{cond, nat_eq, ◌%◌, ◌≢◌, ℕ, ◌<◌, length, Option, Some, None}
 use Rattle.seq_inst.specs.declared.instance.Instance.{Instance}
 use Rattle.seq_inst.specs.declared.group.Group.{Group}
 use Rattle.seq_inst.specs.declared.parts.Answer.{Answer}
@@ -11,6 +11,7 @@ use Rattle.seq_graph.specs.Walks.{HasMoved}
 use Rattle.seq_words.specs.Knowledge.{IsKnown, group_at}
 use Rattle.seq_words.specs.Seats.{Wording, Sitting}
 use Rattle.seq_work.specs.declared.local.Local.{Local}
+use Rattle.seq_work.specs.Growing.{Grows}
 
 -- all places are known with their groups, and none of these is the group, which is real
 pub record IsFullFor (inst : Instance) (words : Wording) (seat : Sitting) (missed : Group) : Type 0 where
@@ -21,6 +22,11 @@ pub record IsFullFor (inst : Instance) (words : Wording) (seat : Sitting) (misse
 -- a worker of even number looks at the passing part first, and one of odd number at the failing part
 abbrev pub first_answer : ℕ → Answer
 first_answer number = cond (nat_eq (number % 2) 0) Pass Fail
+
+-- the group has a row, and no row was lost; or it found no place
+abbrev pub HasEntered : Instance → Wording → Sitting → Local → Local → Option Group → Type 0
+HasEntered inst words seat old new None = Grows old.graph.rows.items new.graph.rows.items × (length old.graph.rows.items < length new.graph.rows.items)
+HasEntered inst words seat old new (Some missed) = IsFullFor inst words seat missed
 
 -- the worker has entered a group or closed one, so less is left to do; or a group found no place
 abbrev pub HasWorked : Instance → Wording → Sitting → Local → Local → Option Group → Type 0

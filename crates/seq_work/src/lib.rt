@@ -13,6 +13,7 @@
 mod backing;
 mod entering;
 mod fanning;
+mod hearing;
 mod local;
 mod prepared;
 mod preparing;

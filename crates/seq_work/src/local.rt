@@ -1,11 +1,10 @@
 //! What a worker keeps for itself.
 use seq_graph::Graph;
 
-/// A worker's number, what it knows of groups, and where its rows stand in the shared words.
+/// A worker's number, and what it knows of groups. Its rows are those of the first places in the shared words, in
+/// order: the row of a place is the one of that number.
 #[derive(Drop)]
 pub struct Local {
     pub number: u32,
     pub graph: Graph,
-    /// By row of the graph, the place in the words that has its group.
-    pub places: Vec<u32>,
 }

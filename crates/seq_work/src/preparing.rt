@@ -34,12 +34,7 @@ fn fresh(alloc: Global, inst: &Instance, limit: u32, workers: u32) -> Result<Vec
     let mut locals = Vec::new(alloc);
     for number in 0..workers {
         let graph = Graph::with_room(alloc, inst, limit, workers)?;
-        let places = Vec::with_capacity(alloc, limit as usize)?;
-        locals.push(Local {
-            number,
-            graph,
-            places,
-        })?;
+        locals.push(Local { number, graph })?;
     }
     Ok(locals)
 }

@@ -1,6 +1,6 @@
 //! The search by workers: they work side by side, each until it knows the group of all classes closed or finds no
 //! place for a group; then the words are closed. Whichever worker found a bound, the rows that come out have it.
-ghost use Rattle.std.specs.Prelude.{◌≡◌, true, false, length};
+ghost use Rattle.std.specs.Prelude.{◌≡◌, ◌≤◌, true, false, All, length};
 ghost use Rattle.seq_theory.specs.Problem.{all_classes, is_end};
 ghost use Rattle.seq_theory.specs.Graph.{is_entered};
 ghost use Rattle.seq_theory.specs.Rows.{IsSound};
@@ -9,7 +9,7 @@ ghost use Rattle.seq_core.specs.RowsOf.{rows_of as rows_from};
 ghost use Rattle.seq_core.specs.Settled.{groups_in};
 ghost use Rattle.seq_core.specs.Entered.{MayStop};
 ghost use Rattle.seq_graph.specs.Known.{IsGraphOf};
-ghost use Rattle.seq_graph.specs.Behind.{AreBehind};
+ghost use Rattle.seq_graph.specs.Behind.{AreFirstOf};
 ghost use Rattle.seq_work.specs.Fans.{AreReady, AreDone};
 ghost use Rattle.seq_work.specs.Prepares.{IsPrepared};
 ghost use Rattle.seq_work.specs.Searches.{BeginsWithAll, HaveEnded, first_missed as missed_first};
@@ -19,7 +19,6 @@ use crate::local::Local;
 use crate::prepared::Prepared;
 use crate::shared::Shared;
 use crate::work::WorkEnd;
-use seq_graph::Graph;
 use seq_inst::Group;
 use seq_table::{Naming, Tables};
 use seq_words::{Closed, Seat, close};
@@ -28,16 +27,17 @@ use std::marker::Brand;
 use std::sync::Wait;
 use std::thread::Threads;
 
-/// The closed words, the group that the first worker missed of those that missed one, how each ended, and what one
-/// of them knows: its graph spares work when an outcome is made of the rows.
+/// The closed words, the group that the first worker missed of those that missed one, how each ended, and what each
+/// knows: their graphs spare work when an outcome is made of the rows.
 #[derive(Drop)]
 pub struct Ended {
     pub closed: Closed,
     pub missed: Option<Group>,
     /// By worker; None past the last one.
     pub ends: [Option<WorkEnd>; 16],
-    /// The last worker's. Its rows are some of the closed ones, with bounds that are no better.
-    pub graph: Graph,
+    /// What each worker keeps, by worker. The rows of its graph are the first of the closed ones, with bounds that are
+    /// no better.
+    pub locals: Vec<Local>,
 }
 
 /// The group of the first worker for whose group there was no place.
@@ -89,8 +89,9 @@ fn search_named<N: Naming + Send + Sync, R: Threads + Wait + Sync, G: Gate + Syn
     ensures stopped { MayStop (problem_of prepared.inst) prepared.limit (groups_in result.closed.rows) result.missed }
     ensures ended { HaveEnded (problem_of prepared.inst) prepared.limit (length prepared.seats.items) result.closed.rows result.ends }
     ensures missed { result.missed ≡ missed_first result.ends }
-    ensures known { IsGraphOf prepared.inst result.graph }
-    ensures behind { AreBehind result.closed.rows result.graph.rows.items }
+    ensures some { 1 ≤ length result.locals.items }
+    ensures known { All (λ l. IsGraphOf prepared.inst l.graph) result.locals.items }
+    ensures behind { All (λ l. AreFirstOf result.closed.rows l.graph.rows.items) result.locals.items }
 {
     let Prepared {
         words,
@@ -118,9 +119,6 @@ fn search_named<N: Naming + Send + Sync, R: Threads + Wait + Sync, G: Gate + Syn
         &mut locals,
         &mut ends[..count],
     );
-    let Some(local) = locals.pop() else {
-        unreachable!()
-    };
     let Shared {
         words,
         tables,
@@ -133,7 +131,7 @@ fn search_named<N: Naming + Send + Sync, R: Threads + Wait + Sync, G: Gate + Syn
         closed,
         missed,
         ends,
-        graph: local.graph,
+        locals,
     }
 }
 
@@ -152,8 +150,9 @@ pub fn search<R: Threads + Wait + Sync, G: Gate + Sync>(
     ensures stopped { MayStop (problem_of prepared.inst) prepared.limit (groups_in result.closed.rows) result.missed }
     ensures ended { HaveEnded (problem_of prepared.inst) prepared.limit (length prepared.seats.items) result.closed.rows result.ends }
     ensures missed { result.missed ≡ missed_first result.ends }
-    ensures known { IsGraphOf prepared.inst result.graph }
-    ensures behind { AreBehind result.closed.rows result.graph.rows.items }
+    ensures some { 1 ≤ length result.locals.items }
+    ensures known { All (λ l. IsGraphOf prepared.inst l.graph) result.locals.items }
+    ensures behind { All (λ l. AreFirstOf result.closed.rows l.graph.rows.items) result.locals.items }
 {
     search_named::<Brand, R, G>(rt, prepared, gate)
 }

@@ -12,7 +12,8 @@ ghost use Rattle.seq_work.specs.Works.{Ready};
 ghost use Rattle.seq_work.specs.Ends.{KnowsRoot, Worked};
 ghost use Rattle.seq_work.specs.Fans.{MayBegin};
 
-use crate::entering::take_in;
+use crate::entering::come_to;
+use crate::hearing::{take_in_new, take_in_up_to};
 use crate::local::Local;
 use crate::shared::Shared;
 use crate::turn::turn;
@@ -32,11 +33,9 @@ pub enum WorkEnd {
 }
 
 /// Gives the group of all classes, which has place 0, the first row.
-fn begin(words: &Words, inst: &Instance, seat: &mut Seat, local: &mut Local, all: &Group)
+fn begin(words: &Words, inst: &Instance, seat: &mut Seat, local: &mut Local)
     requires ready { Ready inst.now words.now seat.old local.old }
-    requires empty { local.old.graph.rows.items ≡ [] }
     requires root { KnowsRoot (problem_of inst.now) seat.old.view }
-    requires all { members all.now ≡ all_classes (problem_of inst.now) }
     requires more { is_end (problem_of inst.now) (all_classes (problem_of inst.now)) ≡ false }
     ensures of { IsOf words.now seat.new }
     ensures covers { Covers seat.new.view seat.old.view }
@@ -44,7 +43,8 @@ fn begin(words: &Words, inst: &Instance, seat: &mut Seat, local: &mut Local, all
     ensures some { 1 ≤ length local.new.graph.rows.items }
     ensures first { members (group_at local.new.graph.rows.items 0) ≡ all_classes (problem_of inst.now) }
 {
-    take_in(words, inst, seat, local, all, 0);
+    take_in_up_to(words, inst, seat, local, 0);
+    come_to(words, inst, seat, local, 0);
 }
 
 /// Turns follow until the group of all classes is closed, or a group finds no place.
@@ -66,6 +66,7 @@ fn turns<N: Naming + Send + Sync, R: Wait, G: Gate + Sync>(
     let mut count = 0u64;
     'turns: while local.graph.rows[0].low != local.graph.rows[0].up {
         gate.turn(local.number, count);
+        take_in_new(&shared.words, &shared.inst, seat, local);
         if let Some(missed) = turn(rt, shared, seat, local, 0) {
             return WorkEnd::Full { missed };
         }
@@ -94,6 +95,6 @@ pub fn work_at<N: Naming + Send + Sync, R: Wait, G: Gate + Sync>(
     if is_leaf(&shared.inst, &all) {
         return WorkEnd::Solved;
     }
-    begin(&shared.words, &shared.inst, seat, local, &all);
+    begin(&shared.words, &shared.inst, seat, local);
     turns(rt, shared, seat, local, gate)
 }

@@ -30,6 +30,17 @@ pub fn outcome_of(alloc: Global, inst: &Instance, groups: u32) -> Result<Outcome
     finish_graph(alloc, inst, groups, graph, missed)
 }
 
+/// The graphs of the workers.
+fn graphs_of(alloc: Global, locals: Vec<Local>) -> Result<Vec<Graph>, AllocError>
+    ensures { IfOk result (λ v. v.items ≡ map (λ l. l.graph) locals.items) }
+{
+    let mut graphs = Vec::with_capacity(alloc, locals.len())?;
+    for local in locals {
+        graphs.push(local.graph)?;
+    }
+    Ok(graphs)
+}
+
 /// What a search by so many workers comes to, each of whose turns passes the gate. It returns if each lock is given and the
 /// gate returns.
 pub fn outcome_by<R: Threads + Wait + Sync, G: Gate + Sync>(
@@ -52,7 +63,8 @@ pub fn outcome_by<R: Threads + Wait + Sync, G: Gate + Sync>(
         closed,
         missed,
         ends: _,
-        graph,
+        locals,
     } = search(rt, prepared, gate);
-    finish_with(alloc, inst, groups, graph, closed.into_rows(), missed)
+    let graphs = graphs_of(alloc, locals)?;
+    finish_with(alloc, inst, groups, graphs, closed.into_rows(), missed)
 }
