@@ -71,7 +71,7 @@ pub fn learn(inst: &Instance, graph: &mut Graph, group: &Group, bounds: Bounds)
 
 /// What greedy costs over a group. The groups of greedy's tree get numbers while there is room for these and for
 /// what they count.
-pub fn greedys_cost(
+pub(crate) fn greedys_cost(
     inst: &Instance,
     graph: &mut Graph,
     group: &Group,
@@ -93,6 +93,20 @@ pub fn greedys_cost(
     let cost = graph.numbers.greedy_from(inst, group, estimates);
     count_new(inst, &graph.numbers, &mut graph.counts);
     cost
+}
+
+/// What greedy costs over a group.
+pub fn greedy_of(inst: &Instance, graph: &mut Graph, group: &Group) -> u64
+    requires known { IsGraphOf inst.now graph.old }
+    requires within { IsGroupOf inst.now group.now }
+    ensures known { IsGraphOf inst.now graph.new }
+    ensures rows { graph.new.rows ≡ graph.old.rows }
+    ensures nodes { graph.new.nodes ≡ graph.old.nodes }
+    ensures keeps { KeepsRoom graph.old graph.new }
+    ensures value { result ≡ cost_of_greedy (problem_of inst.now) (members group.now) }
+    ensures fits { result ≤ greatest_cost }
+{
+    greedys_cost(inst, graph, group, None)
 }
 
 /// Lists the tests of a group that is capped by what greedy costs, where a list is left for them.

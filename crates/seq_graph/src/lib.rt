@@ -51,7 +51,7 @@ pub use events::{add, back_up, enter, hear, note};
 pub use glance::seen_bounds;
 pub use graph::{Count, Graph};
 pub use laws::turns_move;
-pub use learning::{greedys_cost, learn, list};
+pub use learning::{greedy_of, learn, list};
 pub use node::{Growth, Lists, Node, Split, Waiting};
 pub use numbers::Numbers;
 pub use rooms::grow;

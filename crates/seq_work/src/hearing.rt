@@ -13,7 +13,7 @@ ghost use Rattle.seq_work.specs.Works.{Ready};
 ghost use Rattle.seq_work.specs.Growing.{Grows};
 
 use crate::local::Local;
-use seq_graph::{Bounds, GREATEST_COST, LeastParts, greedys_cost, hear, learn, least_parts};
+use seq_graph::{Bounds, GREATEST_COST, LeastParts, greedy_of, hear, learn, least_parts};
 use seq_inst::{Group, Instance};
 use seq_words::{Seat, Seen, Words, lower_cap, see};
 
@@ -120,7 +120,7 @@ fn take_in(
     let place = local.graph.rows.len() as u32;
     let mut up = bounds.up;
     if up > GREATEST_COST {
-        let cost = greedys_cost(inst, &mut local.graph, group, None);
+        let cost = greedy_of(inst, &mut local.graph, group);
         up = lower_cap(words, seat, place, cost);
     }
     let low = bounds.low;

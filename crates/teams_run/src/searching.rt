@@ -2,7 +2,7 @@
 //! The search is AO* (Pattipati and Alexandridis 1990) both times. For workers all that the search itself needs is made before
 //! it begins, and refused as a whole. Which groups are entered, and so which of several strategies of the same cost comes out,
 //! depends on who comes first.
-ghost use Rattle.std.specs.Prelude.{◌≤◌, IfOk};
+ghost use Rattle.std.specs.Prelude.{◌≡◌, ◌≤◌, map, IfOk};
 ghost use Rattle.seq_theory.specs.Tree.{AsksOnly};
 ghost use Rattle.seq_inst.specs.Instances.{problem_of};
 ghost use Rattle.seq_inst.specs.Trees.{tree_of};
@@ -10,9 +10,10 @@ ghost use Rattle.seq_finish.specs.Outcomes.{IsRightOutcome};
 ghost use Rattle.teams_words.specs.Plans.{IsLimit};
 
 use seq_finish::{finish_graph, finish_with};
+use seq_graph::Graph;
 use seq_inst::{Instance, Outcome};
 use seq_solo::{Walked, walk};
-use seq_work::{Ended, prepare, search};
+use seq_work::{Ended, Local, prepare, search};
 use sig_edge::Gate;
 use std::alloc::{AllocError, Global};
 use std::sync::Wait;
